@@ -1,0 +1,16 @@
+pub mod Fields
+pub mod PageOne
+pub mod CatalogForm
+pub mod PageLaws
+pub mod Record
+pub mod Places
+pub mod Graph
+pub mod Reached
+pub mod ReachedLaws
+pub mod Numbering
+pub mod NumberingLaws
+pub mod Dump
+pub mod Tried
+pub mod Layout
+pub mod PageForm
+pub mod Shown

@@ -1,0 +1,156 @@
+//! The bytes of page 1: the number of types, then eight bytes for each type, then zeros.
+ghost use Rattle.std.specs.Prelude.{◌≡◌, ◌+◌, ◌*◌, ◌≤◌, length, take, drop, ◌++◌, None, IfOk, OnOk, IfErr, MatchResult};
+ghost use Rattle.std.specs.Int.{w32, to_le_bytes, from_le_bytes};
+ghost use Rattle.pm3_types.specs.PageOne.{catalog_head, catalog_page, map_bytes, maps_bytes, padded};
+ghost use Rattle.pm3_types.specs.CatalogForm.{departure, head_departure, maps_departure, map_departure, is_zero, IsCauseOf};
+
+use crate::catalogs::CatalogFault;
+use crate::type_map::{MOST_FIELDS, Tail, TypeMap};
+use std::alloc::Global;
+
+/// The most types that a catalog may have.
+pub(crate) const MOST_TYPES: u32 = 256;
+
+/// Writes the bytes of page 1 for these maps.
+pub(crate) fn encode(maps: &[TypeMap], out: &mut [u8])
+    requires page { length out.old ≡ 4096 }
+    requires few { length maps.now ≤ 256 }
+    ensures { out.new ≡ catalog_page maps.now }
+{
+    write_head(out, maps.len() as u32);
+    for (i, map) in maps.iter().enumerate() {
+        let entry = to_bytes(*map);
+        put(out, 8 + 8 * i, &entry);
+    }
+}
+
+/// Writes the head of page 1 and zeros behind it.
+fn write_head(out: &mut [u8], count: u32)
+    requires { length out.old ≡ 4096 }
+    ensures { out.new ≡ padded 4096 (catalog_head count) }
+{
+    out.fill(0);
+    let [a, b, c, d] = count.to_le_bytes();
+    put(out, 0, &[a, b, c, d, 0, 0, 0, 0]);
+}
+
+/// The eight bytes of a type.
+fn to_bytes(map: TypeMap) -> [u8; 8]
+    ensures { result ≡ map_bytes map }
+{
+    let [a, b, c, d] = map.refs.to_le_bytes();
+    [map.count, map.tail.code(), 0, 0, a, b, c, d]
+}
+
+/// Writes bytes over those that begin at `at`.
+fn put(out: &mut [u8], at: usize, bytes: &[u8])
+    requires { at + length bytes.now ≤ length out.old }
+    ensures { out.new ≡ take at out.old ++ bytes.now ++ drop (at + length bytes.now) out.old }
+{
+    out[at..at + bytes.len()].copy_from_slice(bytes);
+}
+
+/// The maps whose page 1 this is.
+pub(crate) fn decode(alloc: Global, bytes: &[u8]) -> Result<Vec<TypeMap>, CatalogFault>
+    requires { length bytes.now ≡ 4096 }
+    ensures same { IfOk result (λ maps. bytes.now ≡ catalog_page maps.items) }
+    ensures few { IfOk result (λ maps. length maps.items ≤ 256) }
+    ensures sound { OnOk result (departure bytes.now ≡ None) }
+    ensures fault { IfErr result (λ fault. IsCauseOf (departure bytes.now) fault) }
+{
+    let (head, rest) = bytes.split_at(8);
+    let count = read_head(head)?;
+    let maps = read_maps(alloc, count, rest)?;
+    Ok(maps)
+}
+
+/// The number of types that the first eight bytes give.
+fn read_head(head: &[u8]) -> Result<u32, CatalogFault>
+    requires { length head.now ≡ 8 }
+    ensures sound { OnOk result (head_departure head.now ≡ None) }
+    ensures value { IfOk result (λ count. count ≡ from_le_bytes w32 (take 4 head.now)) }
+    ensures few { IfOk result (λ count. count ≤ 256) }
+    ensures same { IfOk result (λ count. head.now ≡ catalog_head count) }
+    ensures fault { IfErr result (λ fault. IsCauseOf (head_departure head.now) fault) }
+{
+    let (number, gap) = head.split_at(4);
+    let count = read_u32(number);
+    if count > MOST_TYPES {
+        return Err(CatalogFault::Damaged { offset: 0 });
+    }
+    if !is_zero(gap) {
+        return Err(CatalogFault::Damaged { offset: 4 });
+    }
+    Ok(count)
+}
+
+/// So many maps, from the bytes behind the head.
+fn read_maps(alloc: Global, count: u32, bytes: &[u8]) -> Result<Vec<TypeMap>, CatalogFault>
+    requires page { length bytes.now ≡ 4088 }
+    requires few { count ≤ 256 }
+    ensures count { IfOk result (λ maps. length maps.items ≡ count) }
+    ensures same { IfOk result (λ maps. bytes.now ≡ padded 4088 (maps_bytes maps.items)) }
+    ensures sound { OnOk result (maps_departure count 8 bytes.now ≡ None) }
+    ensures fault { IfErr result (λ fault. IsCauseOf (maps_departure count 8 bytes.now) fault) }
+{
+    let mut maps = Vec::new(alloc);
+    let mut rest = bytes;
+    for i in 0..count {
+        let (entry, behind) = rest.split_at(8);
+        let map = match read_map(entry, 8 + 8 * i) {
+            Ok(map) => map,
+            Err(fault) => return Err(fault),
+        };
+        if maps.push(map).is_err() {
+            return Err(CatalogFault::Memory);
+        }
+        rest = behind;
+    }
+    if !is_zero(rest) {
+        return Err(CatalogFault::Damaged {
+            offset: 8 + 8 * count,
+        });
+    }
+    Ok(maps)
+}
+
+/// The map of eight bytes, which begin at byte `at` of the page.
+fn read_map(entry: &[u8], at: u32) -> Result<TypeMap, CatalogFault>
+    requires eight { length entry.now ≡ 8 }
+    requires near { at ≤ 4088 }
+    ensures same { IfOk result (λ map. entry.now ≡ map_bytes map) }
+    ensures sound { OnOk result (map_departure at entry.now ≡ None) }
+    ensures fault { IfErr result (λ fault. IsCauseOf (map_departure at entry.now) fault) }
+{
+    let (front, mask) = entry.split_at(4);
+    let count = front[0];
+    if count > MOST_FIELDS {
+        return Err(CatalogFault::Damaged { offset: at });
+    }
+    let Some(tail) = Tail::from_code(front[1]) else {
+        return Err(CatalogFault::Damaged { offset: at + 1 });
+    };
+    if front[2] != 0 || front[3] != 0 {
+        return Err(CatalogFault::Damaged { offset: at + 2 });
+    }
+    let Some(map) = TypeMap::new(count, read_u32(mask), tail) else {
+        return Err(CatalogFault::Damaged { offset: at + 4 });
+    };
+    Ok(map)
+}
+
+/// A number of four bytes.
+fn read_u32(bytes: &[u8]) -> u32
+    requires { length bytes.now ≡ 4 }
+    ensures value { result ≡ from_le_bytes w32 bytes.now }
+    ensures bytes { to_le_bytes w32 result ≡ bytes.now }
+{
+    u32::from_le_bytes([bytes[0], bytes[1], bytes[2], bytes[3]])
+}
+
+/// Whether all bytes are zero.
+fn is_zero(bytes: &[u8]) -> bool
+    ensures { result ≡ is_zero bytes.now }
+{
+    bytes.iter().all(|b| *b == 0)
+}
