@@ -1,0 +1,4 @@
+mod Views
+pub mod Framing
+pub mod Keeping
+pub mod Writing
