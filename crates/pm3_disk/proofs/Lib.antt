@@ -1,0 +1,5 @@
+pub mod Contents
+mod Crashed
+pub mod Passing
+mod Recorded
+mod Tearing

@@ -1,0 +1,8 @@
+use Rattle.pm3_disk.proofs.Recorded.{passes_look}
+use Rattle.pm3_disk.proofs.memory_disk.MemoryDiskDisk.len.Goals as goal
+
+pub returns-in-Ok-clause-crash : goal.returns-in-Ok-clause-crash
+returns-in-Ok-clause-crash c = passes_look _ _ c.look.result c.look.ensures.call
+
+pub returns-in-Err-clause-crash : goal.returns-in-Err-clause-crash
+returns-in-Err-clause-crash c = passes_look _ _ c.look.result c.look.ensures.call

@@ -1,0 +1,5 @@
+use Rattle.pm3_disk.proofs.Recorded.{passes_look}
+use Rattle.pm3_disk.proofs.memory_disk.MemoryDiskDisk.reader.Goals as goal
+
+pub returns-clause-crash : goal.returns-clause-crash
+returns-clause-crash c = passes_look _ _ c.read_back.result c.read_back.ensures.call

@@ -1,0 +1,11 @@
+pub mod Content
+pub mod Crash
+pub mod Fakes
+pub mod Faults
+pub mod Media
+pub mod Moments
+pub mod Past
+pub mod Plan
+pub mod Reading
+pub mod Recording
+pub mod Replay
