@@ -1,0 +1,16 @@
+pub mod BitLists
+pub mod ObjectOrder
+pub mod Bitmaps
+pub mod Indexes
+pub mod PageMaps
+pub mod Scanning
+pub mod StepCases
+pub mod RoundTrips
+pub mod Onward
+pub mod Ahead
+pub mod BodyRoles
+pub mod PageForms
+pub mod PageReads
+pub mod WordBytes
+pub mod ReferencePairs
+pub mod FileForms

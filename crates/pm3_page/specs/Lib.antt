@@ -1,0 +1,12 @@
+pub mod StartBits
+pub mod Bits
+pub mod Next
+pub mod PageMap
+pub mod PageIndex
+pub mod PageStore
+pub mod PageLends
+pub mod References
+pub mod Roles
+pub mod Scan
+pub mod PageBytes
+pub mod Faults

@@ -1,0 +1,45 @@
+//! Images of pages in memory, their form in a file, and collections of them.
+//!
+//! A layer above may rely on three things. An `Image` is seen as its page's number and its sheet: the 512 words, with
+//! references as addresses, and for each word whether an object begins there; each call says which word it reads or
+//! writes, and all others stay. `Image::from_file` gives an image exactly where the bytes have the form of a page, and
+//! else names the first word that departs; `Image::to_file` writes the same bytes, and `page_form_law` says what the
+//! form means: objects one after another without a gap, with sound heads, names, references and padding. `Pages` is a finite map from page numbers to images, and `PageSet` a set of page numbers, in both of which a
+//! look-up takes constant time.
+#![tactic(auto)]
+
+// Images and their objects.
+mod addresses;
+mod heads;
+mod images;
+mod start_bits;
+
+// Their form in a file.
+mod conversion;
+mod law;
+mod page_file;
+mod references;
+mod roles;
+mod steps;
+
+// Collections of images and of page numbers, and what page 0 says.
+mod at_home;
+mod bits;
+#[cfg(test)]
+mod collection_tests;
+mod marks;
+mod page_set;
+mod pages;
+mod places;
+#[cfg(test)]
+mod tests;
+
+pub use addresses::{Addr, PageNo};
+pub use at_home::images_stay_at_home;
+pub use images::Image;
+pub use law::page_form_law;
+pub use marks::Marks;
+pub use page_file::ImageFault;
+pub use page_set::PageSet;
+pub use pages::Pages;
+pub use pm3_core::BASE;
