@@ -1,0 +1,12 @@
+use Rattle.std.proofs.Common.{◌≡◌, ◌*◌, ◌-◌, ◌≤◌, ◌++◌, length, option_map}
+use Rattle.pm3_disk.specs.Content.{IfTold}
+use Rattle.pm3_types.specs.PageOne.{zeros}
+use Rattle.pm3_pagefile.proofs.fresh.append_free.Given as goal
+
+-- so many pages are there, the free ones behind what was there before
+abbrev pub invariant-loop-number : goal.invariant-loop-number
+invariant-loop-number g l = record {
+  written : g.D.Disk.content l.disk ≡ option_map (λ bytes. bytes ++ zeros (4096 * (l.number - 3))) (g.D.Disk.content l.fn.disk);
+  len : IfTold (g.D.Disk.content l.disk) (λ bytes. length bytes ≡ 4096 * l.number);
+  faults : g.D.Disk.faults l.fn.disk ≤ g.D.Disk.faults l.disk;
+}

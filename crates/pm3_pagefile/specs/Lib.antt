@@ -1,0 +1,7 @@
+pub mod PageBytes
+pub mod Head
+pub mod HeadForm
+pub mod EmptyFile
+pub mod CatalogBytes
+pub mod Loading
+pub mod Writing
