@@ -1,0 +1,9 @@
+mod Appending
+mod Behind
+mod Continuing
+mod Entering
+mod Examples
+mod Gating
+mod Listing
+mod Locality
+mod Placing

@@ -1,0 +1,23 @@
+-- The heads of a journal's entries: their records without the images.
+use Rattle.std.specs.Prelude.{ℕ, List, length, map}
+use Rattle.pm3_journal.specs.Format.{Record, PagePart, Image, page_in}
+
+pub record Head : Type 0 where
+  pub seq : ℕ
+  pub next_name : ℕ
+  pub tag : ℕ
+  pub high_page : ℕ
+  pub pins : ℕ
+  pub moved : ℕ
+  pub pages : List ℕ
+
+-- the heads in order, and for how many there is space
+pub record HeadList : Type 0 where
+  pub heads : List Head
+  pub slots : ℕ
+
+abbrev pub head_of : Record → Head
+head_of r = record { seq = r.seq; next_name = r.next_name; tag = r.tag; high_page = r.high_page; pins = r.pins; moved = r.moved; pages = map page_in r.parts }
+
+abbrev pub part_of : ℕ × List ℕ → PagePart
+part_of item = Image item.0 item.1

@@ -1,0 +1,10 @@
+pub mod Entered
+pub mod Format
+pub mod Gates
+pub mod Head
+pub mod Heads
+pub mod Journals
+pub mod Pages
+pub mod Reading
+pub mod Records
+pub mod Shown

@@ -1,0 +1,94 @@
+//! The heads of a journal's entries.
+ghost use Rattle.std.specs.Prelude.{◌≡◌, ◌+◌, ◌^◌, ◌<◌, ◌≤◌, [], ◌∷◌, ◌++◌, length, slice_index_or, OnOk};
+ghost use Rattle.pm3_journal.specs.Heads.{Head};
+
+use pm3_disk::Memory;
+use std::alloc::Global;
+use std::marker::Model;
+
+/// A record without its images.
+#[derive(Drop)]
+pub(crate) struct EntryHead {
+    pub(crate) seq: u64,
+    pub(crate) next_name: u64,
+    pub(crate) tag: u32,
+    pub(crate) high_page: u32,
+    pub(crate) pins: u32,
+    pub(crate) moved: u32,
+    pub(crate) pages: Vec<u32>,
+}
+
+impl Model for EntryHead {
+    ghost use Rattle.pm3_journal.specs.Heads.{Head};
+
+    ghost Value = { Head };
+
+    ghost view = { λ h. record { seq = h.seq; next_name = h.next_name; tag = h.tag; high_page = h.high_page; pins = h.pins; moved = h.moved; pages = h.pages.items } };
+}
+
+/// The heads of the entries of a journal, in order. A contract sees them as a list, and for how many there is space.
+#[derive(Drop)]
+pub struct Entries {
+    heads: Vec<EntryHead>,
+}
+
+impl Model for Entries {
+    ghost use Rattle.std.specs.Prelude.{◌^◌, ◌<◌, vec_len, vec_capacity};
+    ghost use Rattle.pm3_journal.specs.Heads.{HeadList};
+
+    ghost Value = { HeadList };
+
+    ghost view = { λ e. record { heads = e.heads.items; slots = vec_capacity e.heads } };
+
+    ghost invariant = { λ e. vec_len e.heads < 2 ^ 32 };
+}
+
+impl Entries {
+    /// No entries.
+    pub(crate) fn new(alloc: Global) -> Entries
+        ensures { result.heads ≡ [] }
+    {
+        Entries {
+            heads: Vec::new(alloc),
+        }
+    }
+
+    /// How many entries there are.
+    pub fn len(&self) -> u32
+        ensures { result ≡ length self.now.heads }
+    {
+        self.heads.len() as u32
+    }
+
+    /// The tag of an entry.
+    pub fn tag(&self, i: u32) -> u32
+        requires { i < length self.now.heads }
+        ensures { (other : Head) → result ≡ (slice_index_or self.now.heads i other).tag }
+    {
+        self.heads[i as usize].tag
+    }
+
+    /// Makes room for one more. More than 2^32 - 1 count as too many for the memory.
+    pub(crate) fn reserve(&mut self) -> Result<(), Memory>
+        ensures slot { OnOk result (length self.new.heads < self.new.slots) }
+        ensures few { OnOk result (length self.new.heads + 1 < 2 ^ 32) }
+        ensures no_less { self.old.slots ≤ self.new.slots }
+        ensures same { self.new.heads ≡ self.old.heads }
+    {
+        if self.len() == u32::MAX {
+            return Err(Memory);
+        }
+        self.heads.reserve(1)?;
+        Ok(())
+    }
+
+    /// Adds a head, for which there is room.
+    pub(crate) fn add(&mut self, head: EntryHead)
+        requires slot { length self.old.heads < self.old.slots }
+        requires few { length self.old.heads + 1 < 2 ^ 32 }
+        ensures { self.new.heads ≡ self.old.heads ++ head ∷ [] }
+    {
+        let pushed = self.heads.push(head);
+        let Ok(()) = pushed else { unreachable!() };
+    }
+}
