@@ -1,0 +1,5 @@
+pub mod Answer
+pub mod Creation
+pub mod Device
+pub mod Output
+pub mod Words

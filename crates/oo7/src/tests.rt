@@ -1,0 +1,254 @@
+//! The program on devices in memory.
+use crate::gate::{Gate, OpenGate};
+use crate::top::oo7;
+use pm3_disk::{MemoryDisk, MemorySink, MemorySource};
+use std::alloc::Global;
+use std::test::Fail;
+use std::thread::Threads;
+
+/// What a call is made on: the bytes of the page file, and the numbers of the calls that fail.
+#[derive(Clone, Copy)]
+struct Setting<'a> {
+    pages: &'a [u8],
+    pages_fails: &'a [u32],
+    journal_fails: &'a [u32],
+    sink_fails: &'a [u32],
+}
+
+/// Devices on which no call fails, and an empty page file.
+const SOUND: Setting<'static> = Setting {
+    pages: &[],
+    pages_fails: &[],
+    journal_fails: &[],
+    sink_fails: &[],
+};
+
+/// What a call leaves.
+#[derive(Drop)]
+struct Ran {
+    status: u8,
+    pages: MemoryDisk,
+    journal: MemoryDisk,
+    sink: MemorySink,
+}
+
+impl Ran {
+    /// Whether no call was made on the two files.
+    fn is_unused(&self) -> bool {
+        self.pages.calls() == 0 && self.journal.calls() == 0
+    }
+}
+
+/// The words of a line, one space between two of them.
+fn words_of(alloc: Global, line: &str) -> Result<Vec<String>, Fail> {
+    let mut words = Vec::new(alloc);
+    if !line.is_empty() {
+        for word in line.split(' ') {
+            words.push(String::from_str(alloc, word)?)?;
+        }
+    }
+    Ok(words)
+}
+
+fn run<R: Threads + Sync + AllocGlobal>(
+    rt: &R,
+    line: &str,
+    setting: Setting<'_>,
+) -> Result<Ran, Fail> {
+    let alloc = rt.alloc();
+    let words = words_of(alloc, line)?;
+    let pages_fails = setting.pages_fails.to_vec(alloc)?;
+    let pages = MemoryDisk::new(alloc, setting.pages.to_vec(alloc)?, pages_fails);
+    let journal_fails = setting.journal_fails.to_vec(alloc)?;
+    let journal = MemoryDisk::new(alloc, Vec::new(alloc), journal_fails);
+    let mut source = MemorySource::new(Vec::new(alloc), Vec::new(alloc));
+    let mut sink = MemorySink::new(alloc, setting.sink_fails.to_vec(alloc)?);
+    let words = words.as_slice();
+    let done = oo7(
+        rt,
+        alloc,
+        words,
+        pages,
+        journal,
+        &mut source,
+        &mut sink,
+        &OpenGate,
+    );
+    Ok(Ran {
+        status: done.status,
+        pages: done.pages,
+        journal: done.journal,
+        sink,
+    })
+}
+
+const JOURNAL_OF_64: [u8; 40] = [
+    0x50, 0x4d, 0x33, 0x4a, 0x4f, 0x55, 0x52, 0x4e, 1, 0, 0, 0, 0x40, 0, 0, 0, 0, 0, 0, 0, //
+    0, 0, 0, 0, 0, 0, 0, 0, 0, 0, 0, 0, 0, 0, 0, 0, 0, 0, 0, 0,
+];
+
+#[test]
+fn a_new_store_has_its_two_files(rt: HostRuntime) -> Result<(), Fail> {
+    let ran = run(&rt, "create 64", SOUND)?;
+    assert_eq!(rt; ran.status, 0);
+    assert_eq!(rt; ran.sink.bytes().len(), 0);
+    assert_eq!(rt; ran.journal.bytes(), JOURNAL_OF_64.as_slice());
+    let pages = ran.pages.bytes();
+    assert_eq!(rt; pages.len(), 262_144);
+    for (at, bytes) in [
+        (0, b"PM3PAGES"),
+        (8, &[1, 0, 0, 0, 64, 0, 0, 0]),
+        (16, &[3, 0, 0, 0, 0, 0, 0, 0]),
+        (24, &[1, 0, 0, 0, 0, 0, 0, 0]),
+        (32, &[1, 0, 0, 0, 0, 0, 0, 0]),
+        (4096, &[12, 0, 0, 0, 0, 0, 0, 0]),
+        (8192, &[2, 0, 0, 0, 18, 0, 0, 0]),
+        (8200, &[0; 8]),
+        (262_136, &[0; 8]),
+    ] {
+        assert_eq!(rt; &pages[at..at + 8], bytes.as_slice(), "at {at}");
+    }
+    Ok(())
+}
+
+#[test]
+fn the_smallest_and_the_largest_store_are_made(rt: HostRuntime) -> Result<(), Fail> {
+    for (line, len) in [("create 16", 65_536), ("create 16384", 67_108_864)] {
+        let ran = run(&rt, line, SOUND)?;
+        assert_eq!(rt; ran.status, 0, "{line}");
+        assert_eq!(rt; ran.pages.bytes().len(), len, "{line}");
+    }
+    Ok(())
+}
+
+#[test]
+fn other_words_are_refused_before_any_call(rt: HostRuntime) -> Result<(), Fail> {
+    for line in [
+        "",
+        "create",
+        "create 15",
+        "create 16385",
+        "create 064",
+        "create 16 16",
+        "Create 16",
+        "create +16",
+        "create 4294967312",
+        "create 16a",
+        "create ",
+        "--help",
+        "help",
+        "creat 16",
+        "create --help",
+    ] {
+        let ran = run(&rt, line, SOUND)?;
+        assert_eq!(rt; ran.status, 2, "{line}");
+        assert_eq!(rt; ran.sink.bytes(), b"fault 2 usage\n".as_slice(), "{line}");
+        assert!(rt; ran.is_unused(), "{line}");
+    }
+    for line in [
+        "dump",
+        "build tiny 7",
+        "run --workers 1",
+        "checkpoint",
+        "drill 7 --workers 3",
+        "dump 16",
+    ] {
+        let ran = run(&rt, line, SOUND)?;
+        assert_eq!(rt; ran.status, 14, "{line}");
+        assert_eq!(rt; ran.sink.bytes(), b"fault 14 later\n".as_slice(), "{line}");
+        assert!(rt; ran.is_unused(), "{line}");
+    }
+    Ok(())
+}
+
+#[test]
+fn a_page_file_is_not_written_over(rt: HostRuntime) -> Result<(), Fail> {
+    let ran = run(
+        &rt,
+        "create 64",
+        Setting {
+            pages: &[7],
+            ..SOUND
+        },
+    )?;
+    assert_eq!(rt; ran.status, 9);
+    assert_eq!(rt; ran.sink.bytes(), b"fault 9 exists\n".as_slice());
+    assert_eq!(rt; ran.pages.bytes(), [7].as_slice());
+    assert_eq!(rt; ran.journal.calls(), 0);
+    Ok(())
+}
+
+/// The calls of `create 16` on the page file: its length, a cut, sixteen pages, a sync.
+const PAGE_FILE_CALLS: u32 = 19;
+
+/// Its calls on the journal: a cut, a write, a sync.
+const JOURNAL_CALLS: u32 = 3;
+
+#[test]
+fn each_call_that_fails_is_told(rt: HostRuntime) -> Result<(), Fail> {
+    for call in 0..PAGE_FILE_CALLS {
+        let ran = run(
+            &rt,
+            "create 16",
+            Setting {
+                pages_fails: &[call],
+                ..SOUND
+            },
+        )?;
+        assert_eq!(rt; ran.status, 3, "call {call}");
+        assert_eq!(rt;
+            ran.sink.bytes(),
+            b"fault 3 pages\n".as_slice(),
+            "call {call}"
+        );
+        assert_eq!(rt;
+            ran.journal.calls(),
+            if call == 0 { 0 } else { JOURNAL_CALLS },
+            "call {call}"
+        );
+    }
+    for call in 0..JOURNAL_CALLS {
+        let ran = run(
+            &rt,
+            "create 16",
+            Setting {
+                journal_fails: &[call],
+                ..SOUND
+            },
+        )?;
+        assert_eq!(rt; ran.status, 4, "call {call}");
+        assert_eq!(rt;
+            ran.sink.bytes(),
+            b"fault 4 journal\n".as_slice(),
+            "call {call}"
+        );
+        assert_eq!(rt; ran.pages.bytes().len(), 0, "call {call}");
+    }
+    let after = Setting {
+        pages_fails: &[PAGE_FILE_CALLS],
+        journal_fails: &[JOURNAL_CALLS],
+        ..SOUND
+    };
+    assert_eq!(rt; run(&rt, "create 16", after)?.status, 0);
+    Ok(())
+}
+
+#[test]
+fn a_sink_that_fails_has_a_front_of_the_line(rt: HostRuntime) -> Result<(), Fail> {
+    let ran = run(
+        &rt,
+        "create 15",
+        Setting {
+            sink_fails: &[0],
+            ..SOUND
+        },
+    )?;
+    assert_eq!(rt; ran.status, 2);
+    assert_eq!(rt; ran.sink.bytes(), b"fault 2".as_slice());
+    Ok(())
+}
+
+#[test]
+fn an_open_gate_lets_everybody_pass() {
+    OpenGate.pass(0, 1);
+}
