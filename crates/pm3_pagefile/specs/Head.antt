@@ -1,5 +1,5 @@
 -- The bytes of page 0.
-use Rattle.std.specs.Prelude.{ℕ, ◌^◌, ◌≤◌, List, ◌++◌, codes}
+use Rattle.std.specs.Prelude.{ℕ, ◌^◌, ◌<◌, ◌≤◌, List, ◌++◌, codes}
 use Rattle.std.specs.Int.{w32, w64, to_le_bytes}
 use Rattle.pm3_page.specs.declared.marks.Marks.{Marks}
 use Rattle.pm3_types.specs.PageOne.{padded}
@@ -20,4 +20,4 @@ pub record AreMarks (marks : Marks) : Type 0 where
   pub pages : (16 ≤ marks.pages) × (marks.pages ≤ 16384)
   pub high_page : (3 ≤ marks.high_page) × (marks.high_page ≤ marks.pages)
   pub next_name : (1 ≤ marks.next_name) × (marks.next_name ≤ 2 ^ 62)
-  pub next_seq : 1 ≤ marks.next_seq
+  pub next_seq : (1 ≤ marks.next_seq) × (marks.next_seq < 2 ^ 64)

@@ -5,3 +5,4 @@ pub mod EmptyFile
 pub mod CatalogBytes
 pub mod Loading
 pub mod Writing
+pub mod HeadLaws

@@ -10,9 +10,10 @@
 // What can go wrong.
 mod faults;
 
-// The bytes of the head, of pages and of their fields.
+// The bytes of the head, of pages and of their fields, and a law of them.
 mod fields;
 mod head;
+mod laws;
 mod padding;
 
 // The calls on a disk or a reader.
@@ -29,5 +30,6 @@ pub use catalogs::read_catalog;
 pub use faults::{CatalogReadFault, LoadFault, MarksFault, PageFault};
 pub use fresh::format;
 pub use images::load;
+pub use laws::heads;
 pub use marks::read_marks;
 pub use writing::write_images;
