@@ -10,10 +10,10 @@ use Rattle.pm3_types.specs.Fields.{Fields}
 use Rattle.pm3_types.specs.Record.{Record}
 use Rattle.pm3_types.specs.Shown.{Book, Images, is_name_of, address_among, address_of, names_of, put_some, gathered, object_at, seen, shown_records, IsOneToOne}
 
-same_key : (q n : ℕ) → eq_by_cmp nat_cmp q n ≡ true → q ≡ n
+pub same_key : (q n : ℕ) → eq_by_cmp nat_cmp q n ≡ true → q ≡ n
 same_key q n is = grind (arith, nat_tests)
 
-key_same : (q : ℕ) → eq_by_cmp nat_cmp q q ≡ true
+pub key_same : (q : ℕ) → eq_by_cmp nat_cmp q q ≡ true
 key_same q = grind (arith, nat_tests)
 
 -- a choice that is the same on both sides

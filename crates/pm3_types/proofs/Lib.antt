@@ -10,3 +10,8 @@ pub mod Meeting
 pub mod Addressing
 pub mod Books
 pub mod Starts
+pub mod TriedImages
+pub mod OneObject
+pub mod Writes
+pub mod PlaceWrites
+pub mod Placings

@@ -6,7 +6,7 @@ use Rattle.pm3_types.specs.Fields.{Fields}
 use Rattle.pm3_types.specs.Layout.{Sheet, IsLaid, is_start, size_at, end_of}
 
 -- no object begins before word 2, or at the end or behind it
-outside : (catalog : List Fields) (sheet : Sheet) → IsLaid catalog sheet → (i : ℕ) → (i < 2) ⊎ (end_of sheet ≤ i) → is_start sheet i ≡ false
+pub outside : (catalog : List Fields) (sheet : Sheet) → IsLaid catalog sheet → (i : ℕ) → (i < 2) ⊎ (end_of sheet ≤ i) → is_start sheet i ≡ false
 outside catalog sheet laid i where_ = elim (cases_Bool (is_start sheet i)) [ inl is ↦ absurd (nowhere is where_) | inr none ↦ none ]
   where
     nowhere : is_start sheet i ≡ true → (i < 2) ⊎ (end_of sheet ≤ i) → ⊥

@@ -14,3 +14,4 @@ pub mod Tried
 pub mod Layout
 pub mod PageForm
 pub mod Shown
+pub mod Objects

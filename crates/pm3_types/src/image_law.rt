@@ -1,10 +1,10 @@
 //! What is proved of images under every catalog and every book.
-ghost use Rattle.std.specs.Prelude.{◌≡◌, ◌≢◌, ℕ, List, Bool, Some};
+ghost use Rattle.std.specs.Prelude.{◌≡◌, ◌≢◌, ◌+◌, ◌^◌, ◌<◌, ◌≤◌, ℕ, List, Bool, true, Some, if◌then◌else◌, length, slice_set};
 ghost use Rattle.std.specs.FinMap.{get, insert};
-ghost use Rattle.pm3_types.specs.Fields.{Fields};
+ghost use Rattle.pm3_types.specs.Fields.{Fields, is_reference};
 ghost use Rattle.pm3_types.specs.Record.{Record};
-ghost use Rattle.pm3_types.specs.Layout.{IsLaid};
-ghost use Rattle.pm3_types.specs.Shown.{Book, Images, IsOneToOne, object_at, seen, shown_records};
+ghost use Rattle.pm3_types.specs.Layout.{Sheet, IsLaid, address, end_of, is_start, placed, size_at, size_of, with_word};
+ghost use Rattle.pm3_types.specs.Shown.{Book, Images, IsOneToOne, object_at, object_in, name_by, record_by, seen, shown_records};
 
 /// The words of a page and the catalog say where its objects begin: two lists of starts, under each of which the objects lie
 /// one after another without a gap, are the same.
@@ -15,7 +15,7 @@ pub fn starts_law()
 
 /// What images show, name by name: under each name what is seen at the address that the book has for it (`pointwise`, `shows`),
 /// and nothing else (`only`). Images that agree at the book's addresses show the same (`alike`), and a change of one object
-/// changes one record (`changed`).
+/// changes one record (`changed`), also where the change is that of one page's sheet (`on_a_page`).
 pub fn shown_law()
     ensures pointwise { (catalog : List Fields) (base : ℕ) (book : Book) (images : Images) (n : ℕ)
         → get (shown_records catalog base book images) n ≡ seen catalog base book images n }
@@ -31,4 +31,35 @@ pub fn shown_law()
         → get book a ≡ Some n → object_at book catalog base now a ≡ Some r
         → ((b m : ℕ) → get book b ≡ Some m → b ≢ a → object_at book catalog base now b ≡ object_at book catalog base images b)
         → shown_records catalog base book now ≡ insert (shown_records catalog base book images) n r }
+    ensures on_a_page { (catalog : List Fields) (base : ℕ) (book : Book) (images : Images) (p at n : ℕ) (sheet now : Sheet) (r : Record)
+        → IsOneToOne book → at < 512 → get images p ≡ Some sheet → get book (address base p at) ≡ Some n
+        → ((t : ℕ) → t ≢ at → object_in book catalog (Some now) t ≡ object_in book catalog (Some sheet) t)
+        → object_in book catalog (Some now) at ≡ Some r
+        → shown_records catalog base book (insert images p now) ≡ insert (shown_records catalog base book images) n r }
+{}
+
+/// A word written within an object, below its head and its name: the objects lie as they did, and every other object of the
+/// page is shown as it was, under every book. Where the word is that of a field, the object's record has the value, or the
+/// name that the value stands for, in that field, and is else as it was (`field`).
+pub fn write_law()
+    ensures field { (book : Book) (fields : Fields) (words : List ℕ) (at head v f : ℕ) → f < fields.count → at + 2 + f < length words
+        → let before = record_by book (Some fields) words at head in
+        let value = if is_reference fields f then name_by book v else v in
+        record_by book (Some fields) (slice_set words (at + 2 + f) v) at head
+        ≡ record { ty = before.ty; fields = slice_set before.fields f value; tail = before.tail } }
+    ensures laid { (catalog : List Fields) (sheet : Sheet) (s i v : ℕ) → IsLaid catalog sheet → is_start sheet s ≡ true
+        → s + 2 ≤ i → i < s + size_at catalog sheet s → IsLaid catalog (with_word sheet i v) }
+    ensures others { (catalog : List Fields) (sheet : Sheet) (s i v : ℕ) (book : Book) (t : ℕ) → IsLaid catalog sheet → is_start sheet s ≡ true
+        → s + 2 ≤ i → i < s + size_at catalog sheet s → t ≢ s
+        → object_in book catalog (Some (with_word sheet i v)) t ≡ object_in book catalog (Some sheet) t }
+{}
+
+/// A new object of so many words behind the last one: the objects and the new one lie one after another, and every other object
+/// of the page is shown as it was, under every book.
+pub fn placing_law()
+    ensures laid { (catalog : List Fields) (page : ℕ) (sheet : Sheet) (size head name : ℕ) → IsLaid catalog sheet → page < 2 ^ 32 → 2 ≤ size
+        → end_of sheet + size ≤ 512 → size_of catalog head ≡ size → IsLaid catalog (placed page sheet size head name) }
+    ensures others { (catalog : List Fields) (page : ℕ) (sheet : Sheet) (size head name : ℕ) (book : Book) (t : ℕ) → IsLaid catalog sheet
+        → page < 2 ^ 32 → 2 ≤ size → end_of sheet + size ≤ 512 → size_of catalog head ≡ size → t ≢ end_of sheet
+        → object_in book catalog (Some (placed page sheet size head name)) t ≡ object_in book catalog (Some sheet) t }
 {}

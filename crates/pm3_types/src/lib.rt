@@ -22,7 +22,7 @@ mod places;
 mod tests;
 
 pub use catalogs::{AddFault, Catalog, CatalogFault};
-pub use image_law::{shown_law, starts_law};
+pub use image_law::{placing_law, shown_law, starts_law, write_law};
 pub use laws::{dumps, numberings, pages, reached_names};
 pub use places::Place;
 pub use shortage::Memory;

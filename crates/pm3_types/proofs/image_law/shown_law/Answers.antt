@@ -1,4 +1,5 @@
 use Rattle.pm3_types.proofs.Books.{get-shown, shown_at, shown_from, shown_alike, shown_changed}
+use Rattle.pm3_types.proofs.OneObject.{one_object}
 use Rattle.pm3_types.proofs.image_law.shown_law.Goals as goal
 
 pub returns-clause-pointwise : goal.returns-clause-pointwise
@@ -15,3 +16,7 @@ returns-clause-alike c = λ catalog base book images now alike. shown_alike cata
 
 pub returns-clause-changed : goal.returns-clause-changed
 returns-clause-changed c = λ catalog base book images now a n r one has is others. shown_changed catalog base book images now a n r one has is others
+
+pub returns-clause-on_a_page : goal.returns-clause-on_a_page
+returns-clause-on_a_page c = λ catalog base book images p at n sheet now r one low on has others is.
+    one_object catalog base book images p at n sheet now r one low on has others is

@@ -1,4 +1,4 @@
-use Rattle.std.proofs.Common.{rules, ◌<◌, ◌^◌, ℕ}
+use Rattle.std.proofs.Common.{rules, ◌<◌, ◌^◌}
 use Rattle.pm3_types.proofs.TypeMaps.{is_reference-past}
 use Rattle.pm3_types.proofs.type_map.TypeMap.new.Goals as goal
 
