@@ -14,3 +14,4 @@ pub mod PageReads
 pub mod WordBytes
 pub mod ReferencePairs
 pub mod FileForms
+pub mod SameBits

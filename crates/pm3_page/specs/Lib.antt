@@ -10,3 +10,4 @@ pub mod Roles
 pub mod Scan
 pub mod PageBytes
 pub mod Faults
+pub mod Head

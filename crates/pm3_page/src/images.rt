@@ -67,6 +67,13 @@ impl Image {
         })
     }
 
+    /// Whether it is an image of the same page, with the same words and the same objects.
+    pub fn is_same(&self, other: &Image) -> bool
+        ensures { IsTrue result ↔ (self.now ≡ other.now) }
+    {
+        self.page == other.page && self.words == other.words && self.starts.is_same(&other.starts)
+    }
+
     /// The number of the page.
     pub fn page(&self) -> PageNo
         ensures page { result ≡ self.now.page }

@@ -4,8 +4,9 @@
 //! references as addresses, and for each word whether an object begins there; each call says which word it reads or
 //! writes, and all others stay. `Image::from_file` gives an image exactly where the bytes have the form of a page, and
 //! else names the first word that departs; `Image::to_file` writes the same bytes, and `page_form_law` says what the
-//! form means: objects one after another without a gap, with sound heads, names, references and padding. `Pages` is a finite map from page numbers to images, and `PageSet` a set of page numbers, in both of which a
-//! look-up takes constant time.
+//! form means: objects one after another without a gap, with sound heads, names, references and padding. `Pages` is a
+//! finite map from page numbers to images, and `PageSet` a set of page numbers, in both of which a look-up takes constant
+//! time. What page 0 says of a store are its `Marks`, whose bytes and bounds are in `Head` of specs/.
 #![tactic(auto)]
 
 // Images and their objects.

@@ -1,6 +1,6 @@
 //! For each word of a page whether an object begins there, as bits.
-ghost use Rattle.std.specs.Prelude.{◌≡◌, ◌<◌, ◌≤◌, false, true, length, replicate, slice_index_or, slice_set};
-ghost use Rattle.pm3_page.specs.StartBits.{IsFirstFrom};
+ghost use Rattle.std.specs.Prelude.{◌≡◌, ◌↔◌, IsTrue, ◌<◌, ◌≤◌, false, true, length, replicate, slice_index_or, slice_set};
+ghost use Rattle.pm3_page.specs.StartBits.{bits_in, IsFirstFrom};
 
 use std::marker::Model;
 
@@ -76,10 +76,25 @@ impl StartBits {
         None
     }
 
+    /// Whether objects begin at the same words.
+    pub(crate) fn is_same(&self, other: &StartBits) -> bool
+        ensures { IsTrue result ↔ (self.now ≡ other.now) }
+    {
+        have_same_bits(&self.bits, &other.bits)
+    }
+
     /// Equal values.
     pub(crate) fn copy(&self) -> StartBits
         ensures { result ≡ self.now }
     {
         StartBits { bits: self.bits }
     }
+}
+
+/// Whether words of the same number have the same bits.
+fn have_same_bits(one: &[u64], other: &[u64]) -> bool
+    requires { length one.now ≡ length other.now }
+    ensures { IsTrue result ↔ (bits_in one.now ≡ bits_in other.now) }
+{
+    one == other
 }

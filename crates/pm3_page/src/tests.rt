@@ -191,6 +191,7 @@ fn objects_are_placed_one_after_another(rt: HostRuntime) -> Result<(), Fail> {
     assert_eq!(rt; header_of(&image, second), Some((PART, 2, 9)));
     assert_eq!(rt; header_of(&image, first + 8), None);
     let copy = image.copy()?;
+    assert!(rt; copy.is_same(&image));
     assert_eq!(rt; copy.first(), Some(first));
     assert_eq!(rt; value_of(&copy, second, 3), Some(0));
     Ok(())

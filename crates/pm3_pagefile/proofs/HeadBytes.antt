@@ -7,7 +7,7 @@ use Rattle.pm3_page.specs.declared.marks.Marks.{Marks}
 use Rattle.pm3_types.specs.PageOne.{padded, zeros}
 use Rattle.pm3_types.specs.CatalogForm.{is_zero}
 use Rattle.pm3_types.proofs.Reading.{zeros_of}
-use Rattle.pm3_pagefile.specs.Head.{head_page}
+use Rattle.pm3_page.specs.Head.{head_page}
 use Rattle.pm3_pagefile.specs.HeadForm.{ends_in_zeros, kind}
 use Rattle.pm3_pagefile.proofs.Pieces.{more_of}
 

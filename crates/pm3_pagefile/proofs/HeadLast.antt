@@ -5,7 +5,7 @@ use Rattle.pm3_disk.specs.Moments.{Passes}
 use Rattle.pm3_disk.proofs.Contents.{steps_both}
 use Rattle.pm3_disk.proofs.Passing.{weaker, then_call}
 use Rattle.pm3_page.specs.declared.marks.Marks.{Marks}
-use Rattle.pm3_pagefile.specs.Head.{head_page}
+use Rattle.pm3_page.specs.Head.{head_page}
 use Rattle.pm3_pagefile.specs.PageBytes.{Given, IsReplaced}
 use Rattle.pm3_pagefile.specs.Writing.{head_given, HeadComesLast, only}
 use Rattle.pm3_pagefile.proofs.Replacing.{IsJoin, replaced_both}

@@ -9,7 +9,7 @@ use Rattle.std.specs.Option.{option_or}
 use Rattle.pm3_page.specs.declared.marks.Marks.{Marks}
 use Rattle.pm3_types.specs.PageOne.{padded, zeros}
 use Rattle.pm3_types.specs.CatalogForm.{is_zero, unless}
-use Rattle.pm3_pagefile.specs.Head.{head_bytes, head_page}
+use Rattle.pm3_page.specs.Head.{head_bytes, head_page}
 use Rattle.pm3_pagefile.specs.HeadForm.{number_at, is_between, ends_in_zeros, kind}
 use Rattle.pm3_pagefile.specs.HeadLaws.{HeadHasForm, OneHead}
 

@@ -4,7 +4,7 @@ use Rattle.std.specs.Int.{w32, to_le_bytes}
 use Rattle.pm3_types.specs.Fields.{Fields}
 use Rattle.pm3_types.specs.PageOne.{catalog_page, padded, zeros}
 use Rattle.pm3_page.specs.declared.marks.Marks.{Marks}
-use Rattle.pm3_pagefile.specs.Head.{head_page}
+use Rattle.pm3_page.specs.Head.{head_page}
 
 -- nothing was given out yet
 abbrev pub first_marks : ℕ → Marks

@@ -4,7 +4,7 @@ use Rattle.std.specs.Int.{Width, byte_len, w32, w64, from_le_bytes}
 use Rattle.std.specs.Option.{option_or}
 use Rattle.pm3_types.specs.CatalogForm.{is_zero, unless}
 use Rattle.pm3_page.specs.declared.marks.Marks.{Marks}
-use Rattle.pm3_pagefile.specs.Head.{head_page}
+use Rattle.pm3_page.specs.Head.{head_page}
 use Rattle.pm3_pagefile.specs.declared.faults.MarksFault.{MarksFault}
 use Rattle.pm3_pagefile.specs.declared.faults.MarksFault.TheVariants.{PageFault, Damaged}
 

@@ -1,7 +1,7 @@
 -- Laws of the bytes of page 0.
 use Rattle.std.specs.Prelude.{◌≡◌, None}
 use Rattle.pm3_page.specs.declared.marks.Marks.{Marks}
-use Rattle.pm3_pagefile.specs.Head.{AreMarks, head_page}
+use Rattle.pm3_page.specs.Head.{AreMarks, head_page}
 use Rattle.pm3_pagefile.specs.HeadForm.{head_departure}
 
 -- the page of marks has the form

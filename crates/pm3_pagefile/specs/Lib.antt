@@ -1,5 +1,4 @@
 pub mod PageBytes
-pub mod Head
 pub mod HeadForm
 pub mod EmptyFile
 pub mod CatalogBytes

@@ -7,7 +7,7 @@ use Rattle.pm3_types.specs.PageForm.{IsSound}
 use Rattle.pm3_page.specs.PageBytes.{file_bytes}
 use Rattle.pm3_page.specs.PageMap.{Images}
 use Rattle.pm3_page.specs.declared.marks.Marks.{Marks}
-use Rattle.pm3_pagefile.specs.Head.{head_page}
+use Rattle.pm3_page.specs.Head.{head_page}
 use Rattle.pm3_pagefile.specs.PageBytes.{Given, IsReplaced}
 
 -- images of pages from 2 to below the number of pages, each in its form and with nothing forwarded

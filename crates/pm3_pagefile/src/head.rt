@@ -1,6 +1,6 @@
 //! Page 0: the marks as bytes.
 ghost use Rattle.std.specs.Prelude.{◌≡◌, ◌≤◌, None, length, IfOk, IfErr, OnOk};
-ghost use Rattle.pm3_pagefile.specs.Head.{AreMarks, head_bytes, head_page};
+ghost use Rattle.pm3_page.specs.Head.{AreMarks, head_bytes, head_page};
 ghost use Rattle.pm3_pagefile.specs.HeadForm.{AreRead};
 
 use crate::faults::MarksFault;

@@ -3,7 +3,7 @@ ghost use Rattle.std.specs.Prelude.{◌≡◌, ◌≤◌, IfOk, IfErr};
 ghost use Rattle.pm3_disk.specs.Content.{IfTold, Unchanged};
 ghost use Rattle.pm3_disk.specs.Faults.{Rose};
 ghost use Rattle.pm3_disk.specs.Moments.{After, Passes};
-ghost use Rattle.pm3_pagefile.specs.Head.{AreMarks};
+ghost use Rattle.pm3_page.specs.Head.{AreMarks};
 ghost use Rattle.pm3_pagefile.specs.HeadForm.{AreRead};
 ghost use Rattle.pm3_pagefile.specs.PageBytes.{page_at};
 

@@ -1,7 +1,7 @@
 use Rattle.std.proofs.Common.{◌*◌, ◌-◌, ◌∙◌, ap}
 use Rattle.pm3_types.specs.PageOne.{catalog_page, padded, zeros}
 use Rattle.pm3_pagefile.specs.EmptyFile.{first_marks, roots_bytes}
-use Rattle.pm3_pagefile.specs.Head.{head_bytes, head_page}
+use Rattle.pm3_page.specs.Head.{head_bytes, head_page}
 use Rattle.pm3_pagefile.proofs.Growing.{four_pieces}
 use Rattle.pm3_pagefile.proofs.fresh.format.Goals as goal
 
