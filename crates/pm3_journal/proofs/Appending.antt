@@ -1,20 +1,20 @@
 -- What the bytes of a journal say while a record is appended, and then.
-use Rattle.std.proofs.Common.{◌≡◌, ◌≢◌, ◌⊎◌, ⊎_elim, inl, inr, ◌+◌, ◌-◌, ◌<◌, ◌≤◌, max, ℕ, Bool, true, false, List, [], ◌∷◌, ◌++◌, length, take, drop, get_or, Option, refl, sym, ◌∙◌, ap, subst, arith, append_assoc, length-append, length-drop, length-take}
+use Rattle.std.proofs.Common.{◌≡◌, ◌⊎◌, ⊎_elim, inl, inr, ◌+◌, ◌-◌, ◌<◌, ◌≤◌, ℕ, Bool, true, false, List, [], ◌∷◌, ◌++◌, length, take, drop, get_or, Option, refl, sym, ◌∙◌, ap, subst, arith, append_assoc, length-drop, length-take}
 use Rattle.std.proofs.lemmas.Bool.{cases_eq, eq-eqb}
-use Rattle.std.proofs.lemmas.List.{drop_more, drop-drop, take_at, drop_at, take-append-drop, take-take, get_or-take, get_or-drop, get_or_past, length-take-le}
-use Rattle.pm3_disk.specs.Content.{TornWrite}
-use Rattle.pm3_journal.specs.Format.{Record, body, closed_gate, record_size, parts_size, IsFit}
-use Rattle.pm3_journal.specs.Gates.{IsClosed, Closes, entered, IsStaged, EntryLeaves, ClosingLeaves, AppendLeaves, Appends}
+use Rattle.std.proofs.lemmas.List.{drop_more, drop-drop, take_at, drop_at, take-append-drop, take-take, get_or-take, get_or-drop, length-take-le}
+use Rattle.pm3_journal.specs.Format.{Record, body, closed_gate, record_size, IsFit}
+use Rattle.pm3_journal.specs.Gates.{IsClosed, Closes, IsStaged, EntryLeaves, ClosingLeaves, AppendLeaves, Appends}
+use Rattle.pm3_journal.specs.Head.{page_count_of}
 use Rattle.pm3_journal.specs.Journals.{IsJournal}
-use Rattle.pm3_journal.specs.Reading.{State, opening, next as behind, next_seq, Ends, Found, is_due, record_at}
+use Rattle.pm3_journal.specs.Reading.{State, opening, next as behind, next_seq, Found, is_due, record_at}
 use Rattle.pm3_journal.specs.Records.{records, Whole, after, HasFront}
 use Rattle.pm3_journal.proofs.Behind.{reads, length_body}
-use Rattle.pm3_journal.proofs.Listing.{records_are, front_same, front_push, pages_after, after_push}
+use Rattle.pm3_journal.proofs.Listing.{stand_length, records_are, front_same, front_push, pages_after, after_push}
 use Rattle.pm3_journal.proofs.Locality.{found_within}
 use Rattle.pm3_journal.proofs.Placing.{closed_ends, short_ends}
 
 -- two lists with the same first ones, the same one behind them, and the same rest
-same_around : (at : ℕ) (c old : List ℕ) → take at c ≡ take at old → at < length c → at < length old → get_or c at 0 ≡ get_or old at 0 → drop (at + 1) c ≡ drop (at + 1) old → c ≡ old
+pub same_around : (at : ℕ) (c old : List ℕ) → take at c ≡ take at old → at < length c → at < length old → get_or c at 0 ≡ get_or old at 0 → drop (at + 1) c ≡ drop (at + 1) old → c ≡ old
 same_around at c old before within within_old here behind =
     let c_is : take at c ++ (get_or c at 0 ∷ drop (at + 1) c) ≡ c = ap (λ (l : List ℕ). take at c ++ l) (sym (drop_more c at 0 within)) ∙ take-append-drop at c in
     let old_is : take at old ++ (get_or old at 0 ∷ drop (at + 1) old) ≡ old = ap (λ (l : List ℕ). take at old ++ l) (sym (drop_more old at 0 within_old)) ∙ take-append-drop at old in
@@ -30,6 +30,13 @@ gate_same at c mid same gate =
 take_less : (at : ℕ) (c mid : List ℕ) → take (at + 1) c ≡ take (at + 1) mid → take at c ≡ take at mid
 take_less at c mid same = sym (take-take at (at + 1) c (omega arith)) ∙ ap (take at) same ∙ take-take at (at + 1) mid (omega arith)
 
+-- all before the gate stands
+pub append_before : (end : ℕ) (is_closed : Bool) (bytes old c : List ℕ) → AppendLeaves end is_closed bytes old c → take end c ≡ take end old
+append_before end is_closed bytes old c leaves = ⊎_elim (λ closing. closing.torn.before) entering leaves
+  where
+    entering : (mid : List ℕ) × Closes end old mid × EntryLeaves end bytes mid c → take end c ≡ take end old
+    entering (mid, closes, entry) = ⊎_elim (λ same. take_less end c mid same ∙ closes.before) (λ staged. staged.before ∙ closes.before) entry
+
 module _ (pages end next : ℕ) (is_closed : Bool) (list : List Record) (old : List ℕ) (journal : IsJournal pages end next is_closed list old) where
   pub old_list : records old ≡ Whole list
   old_list = records_are pages list end old journal.front journal.ends
@@ -43,6 +50,13 @@ module _ (pages end next : ℕ) (is_closed : Bool) (list : List Record) (old : L
   with_short : (c : List ℕ) → take end c ≡ take end old → end ≤ length c → length c ≤ end + 1 → records c ≡ Whole list
   with_short c same within short =
       records_are pages list end c (front_same pages list end c old same within journal.front) (short_ends (after (opening pages) list) end c (omega arith))
+
+  -- the page count stands in the first bytes
+  pub count_stays : (c : List ℕ) → take end c ≡ take end old → page_count_of (take 32 c) ≡ pages
+  count_stays c same =
+      let long : 32 ≤ end = omega (arith, stand_length (opening pages) 32 old list end journal.front.stand) in
+      let head : take 32 c ≡ take 32 old = sym (take-take 32 end c long) ∙ ap (take 32) same ∙ take-take 32 end old long in
+      ap page_count_of head ∙ journal.front.page_count
 
   pub closing_leaves : (c : List ℕ) → ClosingLeaves end is_closed old c → records c ≡ Whole list
   closing_leaves c leaves = elim is_closed as (λ (b : Bool). is_closed ≡ b → records c ≡ Whole list) [ true ↦ known | false ↦ unknown ] refl

@@ -1,10 +1,10 @@
 -- A record that was put is read back.
-use Rattle.std.proofs.Common.{◌≡◌, ◌+◌, ◌*◌, ◌-◌, ◌<◌, ◌≤◌, ◌^◌, ℕ, Bool, true, ◌&&◌, leb, ltb, List, [], ◌∷◌, ◌++◌, length, take, drop, get_or, Option, Some, None, refl, sym, ◌∙◌, ap, subst, arith, append_assoc, length-append, length-drop, if◌then◌else◌}
-use Rattle.std.specs.Int.{w32, w64, to_le_bytes, from_le_bytes}
+use Rattle.std.proofs.Common.{◌≡◌, ◌+◌, ◌*◌, ◌-◌, ◌<◌, ◌≤◌, ◌^◌, ℕ, Bool, true, ◌&&◌, leb, ltb, List, [], ◌∷◌, ◌++◌, length, take, drop, Option, Some, None, refl, sym, ◌∙◌, ap, subst, arith, append_assoc, length-append, length-drop, if◌then◌else◌}
+use Rattle.std.specs.Int.{w32, to_le_bytes, from_le_bytes}
 use Rattle.std.proofs.lemmas.Bool.{and_from, le-leb, lt-ltb}
 use Rattle.std.proofs.lemmas.List.{drop-drop, take_at, drop_at}
 use Rattle.std.proofs.lemmas.Nat.{from_le_bytes-to_le_bytes_4, from_le_bytes-to_le_bytes_8}
-use Rattle.pm3_journal.specs.Format.{PagePart, Image, Record, part_bytes, parts_bytes, body, parts_size, AreParts, IsFit}
+use Rattle.pm3_journal.specs.Format.{PagePart, Image, Record, parts_bytes, body, parts_size, AreParts, IsFit}
 use Rattle.pm3_journal.specs.Reading.{State, Found, Parts, Good, piece, all_zero, is_due, seq_of, name_of, number_of, high_of, front_damage, part_damage, with_part, parts_at, record_with, record_at}
 use Rattle.pm3_journal.proofs.Placing.{HasRead, IsStanding, reads_so}
 

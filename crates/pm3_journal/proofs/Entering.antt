@@ -1,7 +1,7 @@
 -- How the bytes and the head of an entry's record come about, page by page.
 use Rattle.std.proofs.Common.{◌≡◌, ◌+◌, ◌*◌, ◌<◌, ◌≤◌, ℕ, List, [], ◌∷◌, ◌++◌, map, length, take, drop, get_or, refl, sym, ◌∙◌, ap, append_assoc, arith}
 use Rattle.std.proofs.lemmas.List.{append-nil, drop_more, drop_all, take_all, map_more}
-use Rattle.pm3_journal.specs.Format.{PagePart, Image, part_bytes, parts_bytes, parts_size, page_in}
+use Rattle.pm3_journal.specs.Format.{Image, part_bytes, parts_bytes, parts_size, page_in}
 use Rattle.pm3_journal.specs.Heads.{part_of}
 
 -- one page more is put

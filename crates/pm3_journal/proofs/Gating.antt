@@ -1,6 +1,6 @@
 -- What a crash leaves while a body is put behind a gate.
-use Rattle.std.proofs.Common.{◌≡◌, ◌+◌, ◌<◌, ◌≤◌, ℕ, List, [], ◌∷◌, ◌++◌, length, take, drop, Option, Some, option_map, inl, inr, refl, sym, ◌∙◌, ap, arith, append_assoc, length-append, length-take}
-use Rattle.std.proofs.lemmas.List.{take_at, drop_at, take-take, take-append-le, length-take-le}
+use Rattle.std.proofs.Common.{◌≡◌, ◌+◌, ◌<◌, ◌≤◌, ℕ, List, ◌++◌, length, take, drop, Option, Some, option_map, inl, inr, ◌∙◌, ap, arith, append_assoc, length-append}
+use Rattle.std.proofs.lemmas.List.{drop_at, take-take, take-append-le, length-take-le}
 use Rattle.pm3_disk.specs.Content.{IfTold, overwrite, TornWrite}
 use Rattle.pm3_disk.specs.Moments.{After, IsSettled}
 use Rattle.pm3_journal.specs.Gates.{EntryLeaves, IsStaged}

@@ -3,8 +3,8 @@ use Rattle.std.proofs.Common.{◌≡◌, ◌+◌, ◌<◌, ◌≤◌, ℕ, suc, 
 use Rattle.std.proofs.lemmas.List.{take-take}
 use Rattle.pm3_journal.specs.Format.{Record, record_size}
 use Rattle.pm3_journal.specs.Head.{head_damage, page_count_of}
-use Rattle.pm3_journal.specs.Reading.{State, opening, next, Reading, Ends, Broken, Found, record_at}
-use Rattle.pm3_journal.specs.Records.{Listed, Whole, Damaged, before_list, with_reading, records_from, with_head, records, after, Stand, HasFront}
+use Rattle.pm3_journal.specs.Reading.{State, opening, next, Reading, Ends, Found, record_at}
+use Rattle.pm3_journal.specs.Records.{Whole, before_list, with_reading, records_from, with_head, records, after, Stand, HasFront}
 use Rattle.pm3_journal.proofs.Locality.{found_same}
 
 -- each record has a byte at least

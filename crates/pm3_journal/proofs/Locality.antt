@@ -1,5 +1,5 @@
 -- What is read depends on the bytes read.
-use Rattle.std.proofs.Common.{◌≡◌, ◌+◌, ◌*◌, ◌-◌, ◌<◌, ◌≤◌, ℕ, suc, zero, List, length, take, refl, sym, ◌∙◌, ap, arith, subst}
+use Rattle.std.proofs.Common.{◌≡◌, ◌+◌, ◌*◌, ◌-◌, ◌≤◌, ℕ, suc, zero, List, length, take, refl, sym, ◌∙◌, ap, arith, subst}
 use Rattle.std.specs.Int.{w32, from_le_bytes}
 use Rattle.pm3_journal.specs.Format.{Record, Image, record_size}
 use Rattle.pm3_journal.specs.Reading.{State, Found, Parts, piece, number_of, front_damage, part_damage, with_part, parts_at, record_with, record_at}

@@ -1,9 +1,9 @@
 -- What the pieces of some bytes say.
-use Rattle.std.proofs.Common.{◌≡◌, ◌≢◌, ◌+◌, ◌*◌, ◌-◌, ◌<◌, ◌≤◌, ℕ, suc, zero, Bool, true, false, ◌&&◌, List, [], ◌∷◌, ◌++◌, length, take, drop, get_or, Option, Some, None, refl, sym, ◌∙◌, ap, arith, leb, eqb, if◌then◌else◌, subst}
+use Rattle.std.proofs.Common.{◌≡◌, ◌≢◌, ◌+◌, ◌*◌, ◌-◌, ◌<◌, ◌≤◌, ℕ, suc, zero, Bool, true, false, List, [], ◌∷◌, length, take, drop, get_or, Option, Some, None, refl, sym, ◌∙◌, ap, arith, if◌then◌else◌, subst}
 use Rattle.std.proofs.lemmas.List.{take-take, drop-take, get_or-take, get_or-drop}
 use Rattle.std.proofs.lemmas.Bool.{and_parts, and_from, and_left, and_right, leb-true, le-leb, lt-leb, ne_eqb, eq-eqb, eqb-true}
-use Rattle.pm3_journal.specs.Format.{PagePart, Image, Record, record_size, parts_size}
-use Rattle.pm3_journal.specs.Reading.{State, Reading, Ends, Broken, Found, Parts, Bad, Good, piece, is_due, seq_of, number_of, front_damage, part_damage, with_part, parts_at, stands, record_with, with_front, record_at}
+use Rattle.pm3_journal.specs.Format.{PagePart, Record, record_size, parts_size}
+use Rattle.pm3_journal.specs.Reading.{State, Reading, Ends, Found, Parts, Bad, Good, piece, is_due, seq_of, number_of, front_damage, part_damage, with_part, parts_at, stands, record_with, with_front, record_at}
 
 -- a piece of the first `end` bytes depends on these alone
 pub piece_same : (at n end : ℕ) (c old : List ℕ) → take end c ≡ take end old → at + n ≤ end → piece at n c ≡ piece at n old
@@ -21,7 +21,7 @@ unfolding stands
 stands_closed due left front closed = and_left _ _ (ne_eqb (get_or front 0 0) 1 closed)
 
 -- nor where its front isn't there
-stands_short : (due : Option ℕ) (left : ℕ) (front : List ℕ) → left < 48 → stands due left front ≡ false
+pub stands_short : (due : Option ℕ) (left : ℕ) (front : List ℕ) → left < 48 → stands due left front ≡ false
 unfolding stands
 stands_short due left front short = and_right _ _ (and_left _ _ (lt-leb 48 left short))
 

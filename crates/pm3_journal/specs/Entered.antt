@@ -1,6 +1,6 @@
 -- The record of an entry.
-use Rattle.std.specs.Prelude.{ℕ, List, map}
-use Rattle.pm3_journal.specs.Format.{Record, PagePart}
+use Rattle.std.specs.Prelude.{ℕ, map}
+use Rattle.pm3_journal.specs.Format.{Record}
 use Rattle.pm3_journal.specs.Heads.{part_of}
 use Rattle.pm3_journal.specs.declared.entry.Entry.{Entry}
 

@@ -1,5 +1,6 @@
 -- The heads of a journal's entries: their records without the images.
-use Rattle.std.specs.Prelude.{ℕ, List, length, map}
+use Rattle.std.specs.Prelude.{ℕ, Bool, ◌==◌, List, map}
+use Rattle.std.specs.List.{list_any}
 use Rattle.pm3_journal.specs.Format.{Record, PagePart, Image, page_in}
 
 pub record Head : Type 0 where
@@ -21,3 +22,7 @@ head_of r = record { seq = r.seq; next_name = r.next_name; tag = r.tag; high_pag
 
 abbrev pub part_of : ℕ × List ℕ → PagePart
 part_of item = Image item.0 item.1
+
+-- an entry has the page
+abbrev pub has_page : List Head → ℕ → Bool
+has_page heads page = list_any (λ h. list_any (λ p. p == page) h.pages) heads

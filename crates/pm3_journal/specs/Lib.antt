@@ -1,3 +1,4 @@
+pub mod Calm
 pub mod Entered
 pub mod Format
 pub mod Gates
@@ -5,6 +6,10 @@ pub mod Head
 pub mod Heads
 pub mod Journals
 pub mod Pages
+pub mod Places
 pub mod Reading
 pub mod Records
 pub mod Shown
+pub mod Stretch
+pub mod Opening
+pub mod Opened

@@ -1,6 +1,7 @@
 -- What the bytes at an offset say of the next record.
 use Rattle.std.specs.Prelude.{ℕ, suc, zero, ◌+◌, ◌*◌, ◌-◌, ◌^◌, Bool, true, ◌&&◌, ◌==◌, leb, ltb, if◌then◌else◌, List, [], ◌∷◌, length, take, drop, get_or, Option, Some, None}
 use Rattle.std.specs.Int.{w32, w64, from_le_bytes}
+use Rattle.std.specs.List.{list_all}
 use Rattle.pm3_journal.specs.Format.{PagePart, Image, Record}
 
 -- what the reading of a record rests on: the page count, and the sequence number that is due, if any is
@@ -40,8 +41,7 @@ abbrev pub piece : ℕ → ℕ → List ℕ → List ℕ
 piece at n bytes = take n (drop at bytes)
 
 abbrev pub all_zero : List ℕ → Bool
-all_zero [] = true
-all_zero (x ∷ xs) = (x == 0) && all_zero xs
+all_zero bytes = list_all (λ byte. byte == 0) bytes
 
 -- the offset of the first of these fields that is damaged
 abbrev pub first_damaged : List (ℕ × Bool) → Option ℕ

@@ -1,6 +1,6 @@
 //! The heads of a journal's entries.
 ghost use Rattle.std.specs.Prelude.{◌≡◌, ◌+◌, ◌^◌, ◌<◌, ◌≤◌, [], ◌∷◌, ◌++◌, length, slice_index_or, OnOk};
-ghost use Rattle.pm3_journal.specs.Heads.{Head};
+ghost use Rattle.pm3_journal.specs.Heads.{has_page, Head};
 
 use pm3_disk::Memory;
 use std::alloc::Global;
@@ -68,6 +68,13 @@ impl Entries {
         self.heads[i as usize].tag
     }
 
+    /// Whether an entry has the page.
+    pub fn has(&self, page: u32) -> bool
+        ensures { result ≡ has_page self.now.heads page }
+    {
+        self.heads.iter().any(|head| head.pages.contains(&page))
+    }
+
     /// Makes room for one more. More than 2^32 - 1 count as too many for the memory.
     pub(crate) fn reserve(&mut self) -> Result<(), Memory>
         ensures slot { OnOk result (length self.new.heads < self.new.slots) }
@@ -80,6 +87,14 @@ impl Entries {
         }
         self.heads.reserve(1)?;
         Ok(())
+    }
+
+    /// Leaves no head, and the room that there is.
+    pub(crate) fn clear(&mut self)
+        ensures none { self.new.heads ≡ [] }
+        ensures slots { self.new.slots ≡ self.old.slots }
+    {
+        self.heads.clear();
     }
 
     /// Adds a head, for which there is room.

@@ -1,6 +1,7 @@
 //! The pages of an entry, in file form.
 ghost use Rattle.std.specs.Prelude.{◌≡◌, ◌+◌, ◌<◌, ◌≤◌, [], ◌∷◌, ◌++◌, length, slice_index_or, OnOk};
-ghost use Rattle.pm3_journal.specs.Pages.{PageList};
+ghost use Rattle.std.specs.Option.{option_copied};
+ghost use Rattle.pm3_journal.specs.Pages.{AreBelow, image_of, IsRising};
 
 use pm3_disk::Memory;
 use std::alloc::Global;
@@ -34,7 +35,11 @@ impl Model for FilePages {
 
     ghost Value = { PageList };
 
+    ghost use Rattle.pm3_journal.specs.Pages.{IsRising};
+
     ghost view = { λ p. record { items = p.pages.items; room = vec_capacity p.pages - vec_len p.pages } };
+
+    ghost invariant = { λ p. IsRising p.pages.items };
 }
 
 impl FilePages {
@@ -49,7 +54,8 @@ impl FilePages {
 
     /// How many pages there are.
     pub fn len(&self) -> usize
-        ensures { result ≡ length self.now.items }
+        ensures len { result ≡ length self.now.items }
+        ensures rising { IsRising self.now.items }
     {
         self.pages.len()
     }
@@ -67,6 +73,7 @@ impl FilePages {
     /// Adds a page at the end, for which there is room. Its number is above the others.
     pub fn push(&mut self, page: u32, bytes: &[u8; 4096])
         requires room { 0 < self.old.room }
+        requires above { AreBelow page self.old.items }
         ensures pushed { self.new.items ≡ self.old.items ++ (page, bytes.now) ∷ [] }
         ensures room { self.old.room ≤ self.new.room + 1 }
     {
@@ -75,6 +82,27 @@ impl FilePages {
             bytes: *bytes,
         });
         let Ok(()) = pushed else { unreachable!() };
+    }
+
+    /// The bytes of a page, None exactly where the page isn't there.
+    pub fn get(&self, page: u32) -> Option<&[u8; 4096]>
+        ensures { option_copied result ≡ image_of page self.now.items }
+    {
+        let mut low = 0;
+        let mut high = self.len();
+        while low < high {
+            let middle = low + (high - low) / 2;
+            let number = self.number(middle);
+            if number == page {
+                return Some(self.image(middle));
+            }
+            if number < page {
+                low = middle + 1;
+            } else {
+                high = middle;
+            }
+        }
+        None
     }
 
     /// The number of the page at an index.

@@ -1,11 +1,11 @@
 //! A journal that is open.
-ghost use Rattle.std.specs.Prelude.{◌≡◌, ◌+◌, ◌*◌, ◌^◌, ◌<◌, ◌≤◌, ◌↔◌, ◌⊎◌, true, false, [], ℕ, List, length, Option, Some, None, IfOk, OnOk, OnErr, IsErrOf};
+ghost use Rattle.std.specs.Prelude.{◌≡◌, ◌+◌, ◌*◌, ◌^◌, ◌<◌, ◌≤◌, ◌↔◌, ◌⊎◌, true, false, ℕ, List, [], map, get_or, length, Option, Some, None, IfOk, IfErr, OnOk, OnErr, IsErrOf};
 ghost use Rattle.pm3_disk.specs.Content.{IfTold, Steps};
 ghost use Rattle.pm3_disk.specs.Faults.{Rose};
 ghost use Rattle.pm3_disk.specs.Moments.{IsSettled, Passes};
 ghost use Rattle.pm3_journal.specs.Entered.{record_of};
-ghost use Rattle.pm3_journal.specs.Format.{IsFit, record_size};
-ghost use Rattle.pm3_journal.specs.Head.{empty_journal};
+ghost use Rattle.pm3_journal.specs.Format.{IsFit, Record, record_size};
+ghost use Rattle.pm3_journal.specs.Heads.{head_of};
 ghost use Rattle.pm3_journal.specs.Journals.{HasMaybeOneMore, HasOneMore, Keeps};
 ghost use Rattle.pm3_journal.specs.Reading.{next_seq};
 ghost use Rattle.pm3_journal.specs.Shown.{grown, halted, HasRoom};
@@ -13,6 +13,7 @@ ghost use Rattle.pm3_journal.specs.Shown.{grown, halted, HasRoom};
 use crate::encoding::encode;
 use crate::entries::Entries;
 use crate::entry::{Entry, Receipt};
+use crate::file_pages::FilePages;
 use crate::gate::append_body;
 use crate::summary::summarize;
 use pm3_disk::{Disk, Memory};
@@ -38,17 +39,20 @@ pub enum AppendFault {
 /// A journal over its device.
 #[derive(Drop)]
 pub struct Journal<D: Disk> {
-    disk: D,
-    pages: u32,
-    entries: Entries,
-    end: u64,
-    next: u64,
-    is_closed: bool,
-    stopped: Option<u64>,
-    buffer: Vec<u8>,
-    numbers: Vec<u32>,
-    room: Option<u32>,
-    since: Snapshot<D>,
+    pub(crate) disk: D,
+    pub(crate) pages: u32,
+    pub(crate) entries: Entries,
+    pub(crate) end: u64,
+    pub(crate) next: u64,
+    pub(crate) is_closed: bool,
+    pub(crate) stopped: Option<u64>,
+    pub(crate) is_torn: bool,
+    pub(crate) buffer: Vec<u8>,
+    pub(crate) numbers: Vec<u32>,
+    pub(crate) room: Option<u32>,
+    pub(crate) since: Snapshot<D>,
+    pub(crate) images: FilePages,
+    pub(crate) places: Vec<Option<u64>>,
 }
 
 impl<D: Disk> Model for Journal<D> {
@@ -60,15 +64,16 @@ impl<D: Disk> Model for Journal<D> {
     ghost coded = { shown_code D.code };
 
     ghost use Rattle.pm3_journal.specs.Journals.{HasSpace, Keeps};
+    ghost use Rattle.pm3_journal.specs.Places.{AreLow};
 
-    ghost view = { λ j. record { disk = j.disk; pages = j.pages; heads = j.entries.heads; end = j.end; next = j.next; is_closed = j.is_closed; stopped = j.stopped; since = D.moment j.since.value; room = j.room } };
+    ghost view = { λ j. record { disk = j.disk; pages = j.pages; heads = j.entries.heads; end = j.end; next = j.next; is_closed = j.is_closed; stopped = j.stopped; is_torn = j.is_torn; since = D.moment j.since.value; room = j.room; images = j.images.items; places = j.places.items } };
 
-    ghost invariant = { λ j. Keeps j.pages j.end j.next j.is_closed j.stopped j.entries.heads (D.moment j.since.value) (D.moment j.disk) (D.content j.disk) (D.images j.disk)
-        × HasSpace j.room (vec_capacity j.buffer) (vec_capacity j.numbers) (length j.entries.heads) j.entries.slots };
+    ghost invariant = { λ j. Keeps j.pages j.end j.next j.is_closed j.stopped j.is_torn j.entries.heads (D.moment j.since.value) (D.moment j.disk) (D.content j.disk) (D.images j.disk)
+        × HasSpace j.room (vec_capacity j.buffer) (vec_capacity j.numbers) (length j.entries.heads) j.entries.slots × AreLow j.places.items };
 }
 
 /// The sequence number after this one.
-fn successor(seq: u64) -> u64
+pub(crate) fn successor(seq: u64) -> u64
     ensures { result ≡ next_seq seq }
 {
     if seq == u64::MAX { 1 } else { seq + 1 }
@@ -94,7 +99,7 @@ impl<D: Disk> Journal<D> {
     /// The number that `Stopped` would carry. What a journal keeps, stopped or not, is said here.
     pub fn stopped(&self) -> Option<u64>
         ensures stopped { result ≡ self.now.stopped }
-        ensures keeps { Keeps self.now.pages self.now.end self.now.next self.now.is_closed self.now.stopped self.now.heads self.now.since (D.moment self.now.disk) (D.content self.now.disk) (D.images self.now.disk) }
+        ensures keeps { Keeps self.now.pages self.now.end self.now.next self.now.is_closed self.now.stopped self.now.is_torn self.now.heads self.now.since (D.moment self.now.disk) (D.content self.now.disk) (D.images self.now.disk) }
     {
         self.stopped
     }
@@ -178,41 +183,14 @@ impl<D: Disk> Journal<D> {
             next: _,
             is_closed: _,
             stopped: _,
+            is_torn: _,
             buffer: _,
             numbers: _,
             room: _,
             since: _,
+            images: _,
+            places: _,
         } = self;
         disk
-    }
-}
-
-impl<D: Disk> Journal<D> {
-    /// The journal of a device on which one was just created. It reads nothing, and takes no memory.
-    pub fn begun(alloc: Global, disk: D, pages: u32) -> Journal<D>
-        requires few { 16 ≤ pages }
-        requires most { pages ≤ 16384 }
-        requires new { IfTold (D.content disk) (λ bytes. bytes ≡ empty_journal pages) }
-        requires settled { IsSettled (D.content disk) (D.images disk (D.moment disk)) }
-        ensures disk { result.disk ≡ disk }
-        ensures pages { result.pages ≡ pages }
-        ensures heads { result.heads ≡ [] }
-        ensures next { result.next ≡ 1 }
-        ensures stopped { result.stopped ≡ None }
-    {
-        let since = Snapshot::of(&disk);
-        Journal {
-            disk,
-            pages,
-            entries: Entries::new(alloc),
-            end: 32,
-            next: 1,
-            is_closed: true,
-            stopped: None,
-            buffer: Vec::new(alloc),
-            numbers: Vec::new(alloc),
-            room: None,
-            since,
-        }
     }
 }

@@ -21,10 +21,26 @@ mod encoding;
 mod summary;
 
 // A journal that is open.
+mod closing;
+mod images;
 mod journal;
 
-// What the definitions say of worked bytes.
+// The records of a device.
+mod fields;
+mod finding;
+mod reading;
+mod recovered;
+mod recovery;
+mod window;
+
+// A store that is open: its two files, and what is held of them.
+mod opened;
+
+// What the definitions say of worked bytes, and of the graph that files open to.
 mod laws;
+mod opens;
+#[cfg(test)]
+mod recover_tests;
 #[cfg(test)]
 mod tests;
 
@@ -34,3 +50,7 @@ pub use entry::{Entry, Receipt};
 pub use file_pages::FilePages;
 pub use journal::{AppendFault, Journal};
 pub use laws::new_journal_is_empty;
+pub use opened::{Opened, PageFault};
+pub use opens::opens_to_one_graph;
+pub use reading::RecoverFault;
+pub use recovered::recover;

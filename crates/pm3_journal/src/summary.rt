@@ -28,7 +28,7 @@ pub(crate) fn summarize(numbers: Vec<u32>, seq: u64, entry: &Entry) -> EntryHead
 }
 
 /// Adds a number for which there is room.
-fn add(numbers: &mut Vec<u32>, number: u32)
+pub(crate) fn add(numbers: &mut Vec<u32>, number: u32)
     requires { vec_len numbers.old < vec_capacity numbers.old }
     ensures items { numbers.new.items ≡ numbers.old.items ++ number ∷ [] }
     ensures len { vec_len numbers.new ≡ vec_len numbers.old + 1 }

@@ -1,25 +1,19 @@
-//! Appends on a device in memory.
-ghost use Rattle.std.specs.Prelude.{◌≡◌, [], IfOk, None};
+//! Appends and closings on a device in memory.
+ghost use Rattle.std.specs.Prelude.{◌≡◌, ◌^◌, ◌<◌, ◌≤◌, ℕ, length, IfOk, OnOk};
 ghost use Rattle.pm3_journal.specs.Entered.{record_of};
 ghost use Rattle.pm3_journal.specs.Format.{IsFit};
+ghost use Rattle.pm3_journal.specs.Reading.{next_seq};
 
-use crate::{AppendFault, Entry, FilePages, Journal, Receipt, create};
+use crate::{AppendFault, Entry, FilePages, Journal, Receipt, RecoverFault, create, recover};
 use pm3_disk::{Memory, MemoryDisk};
 use std::alloc::Global;
+use std::process::Abort;
 use std::test::Fail;
 
-/// A new journal for 64 pages, whose device fails at a call, where one is given. Three calls create it.
-fn begun(alloc: Global, fails: Vec<u32>) -> Result<Journal<MemoryDisk>, Fail>
-    ensures { IfOk result (λ journal. (journal.pages ≡ 64) × (journal.next ≡ 1) × (journal.heads ≡ []) × (journal.stopped ≡ None)) }
-{
-    let mut disk = MemoryDisk::new(alloc, Vec::new(alloc), fails);
-    create(&mut disk, 64)?;
-    Ok(Journal::begun(alloc, disk, 64))
-}
-
-/// An entry of two pages.
-fn two_pages(alloc: Global) -> Result<Entry, Memory>
-    ensures { IfOk result (λ entry. IsFit 64 (record_of 1 entry)) }
+/// An entry of the pages 2 and 4.
+pub(crate) fn two_pages(alloc: Global) -> Result<Entry, Memory>
+    ensures few { IfOk result (λ entry. length entry.pages.items ≡ 2) }
+    ensures fit { IfOk result (λ entry. (seq : ℕ) → seq < 2 ^ 64 → IsFit 16 (record_of seq entry)) }
 {
     let mut pages = FilePages::new(alloc);
     pages.reserve(2)?;
@@ -36,29 +30,72 @@ fn two_pages(alloc: Global) -> Result<Entry, Memory>
 }
 
 /// An entry without pages.
-fn no_pages(alloc: Global) -> Entry
-    ensures { IsFit 64 (record_of 1 result) }
+pub(crate) fn no_pages(alloc: Global) -> Entry
+    ensures few { length result.pages.items ≡ 0 }
+    ensures fit { (seq : ℕ) → seq < 2 ^ 64 → IsFit 16 (record_of seq result) }
 {
     Entry {
         tag: 4,
         next_name: 3,
         high_page: 5,
-        pins: 2,
+        pins: 0,
         moved: 0,
         pages: FilePages::new(alloc),
     }
 }
 
+/// The device of a new journal for 16 pages.
+pub(crate) fn new_device(alloc: Global) -> Result<MemoryDisk, Fail> {
+    let mut disk = MemoryDisk::new(alloc, Vec::new(alloc), Vec::new(alloc));
+    create(&mut disk, 16)?;
+    Ok(disk)
+}
+
+/// The journal of a device.
+pub(crate) fn recovered(
+    alloc: Global,
+    disk: MemoryDisk,
+) -> Result<Journal<MemoryDisk>, RecoverFault>
+    ensures { IfOk result (λ journal. journal.next < 2 ^ 64) }
+{
+    match recover(alloc, disk) {
+        Ok(journal) => Ok(journal),
+        Err((fault, _)) => Err(fault),
+    }
+}
+
+/// Appends an entry of at most two pages.
+pub(crate) fn append(
+    rt: &impl Abort,
+    journal: &mut Journal<MemoryDisk>,
+    entry: &Entry,
+) -> Result<Receipt, Fail>
+    requires next { journal.old.next < 2 ^ 64 }
+    requires few { length entry.now.pages.items ≤ 2 }
+    requires fit { (seq : ℕ) → seq < 2 ^ 64 → IsFit 16 (record_of seq entry.now) }
+    ensures { OnOk result (journal.new.next ≡ next_seq journal.old.next) }
+{
+    assert!(rt; journal.pages() == 16);
+    journal.reserve(2)?;
+    let receipt = journal.append(entry)?;
+    Ok(receipt)
+}
+
+/// A new journal, whose device fails at one of its calls. Three create it, and three recover it.
+fn failing_at(alloc: Global, call: u32) -> Result<Journal<MemoryDisk>, Fail>
+    ensures { IfOk result (λ journal. journal.next < 2 ^ 64) }
+{
+    let mut disk = MemoryDisk::new(alloc, Vec::new(alloc), Vec::from_slice(alloc, &[call])?);
+    create(&mut disk, 16)?;
+    Ok(recovered(alloc, disk)?)
+}
+
 #[test]
 fn a_record_is_added(rt: HostRuntime) -> Result<(), Fail> {
     let alloc = rt.alloc();
-    let mut journal = begun(alloc, Vec::new(alloc))?;
-    let entry = two_pages(alloc)?;
-    assert!(rt; entry.pages.len() == 2);
-    journal.reserve(2)?;
-    let receipt = journal.append(&entry)?;
+    let mut journal = recovered(alloc, new_device(alloc)?)?;
     assert_eq!(rt;
-        receipt,
+        append(&rt, &mut journal, &two_pages(alloc)?)?,
         Receipt {
             seq: 1,
             pinned: 0,
@@ -67,7 +104,7 @@ fn a_record_is_added(rt: HostRuntime) -> Result<(), Fail> {
     );
     assert_eq!(rt; journal.entries().len(), 1);
     let disk = journal.into_disk();
-    assert_eq!(rt; disk.calls(), 7);
+    assert_eq!(rt; disk.calls(), 3 + 3 + 4);
     let bytes = disk.bytes();
     assert_eq!(rt; bytes.len(), 8296);
     let front = [
@@ -81,25 +118,102 @@ fn a_record_is_added(rt: HostRuntime) -> Result<(), Fail> {
 #[test]
 fn a_record_may_have_no_pages(rt: HostRuntime) -> Result<(), Fail> {
     let alloc = rt.alloc();
-    let mut journal = begun(alloc, Vec::new(alloc))?;
-    let entry = no_pages(alloc);
-    assert!(rt; entry.pages.len() == 0);
-    journal.reserve(0)?;
-    journal.append(&entry)?;
+    let mut journal = recovered(alloc, new_device(alloc)?)?;
+    append(&rt, &mut journal, &no_pages(alloc))?;
     assert_eq!(rt; journal.into_disk().bytes().len(), 88);
     Ok(())
+}
+
+/// Why an append is refused, None where it isn't.
+fn refusal(
+    rt: &impl Abort,
+    journal: &mut Journal<MemoryDisk>,
+    entry: &Entry,
+) -> Result<Option<AppendFault>, Fail>
+    requires next { journal.old.next < 2 ^ 64 }
+    requires few { length entry.now.pages.items ≤ 2 }
+    requires fit { (seq : ℕ) → seq < 2 ^ 64 → IsFit 16 (record_of seq entry.now) }
+    ensures { OnOk result (journal.new.next < 2 ^ 64) }
+{
+    assert!(rt; journal.pages() == 16);
+    journal.reserve(2)?;
+    match journal.append(entry) {
+        Ok(_) => Ok(None),
+        Err(fault) => Ok(Some(fault)),
+    }
 }
 
 #[test]
 fn a_fault_stops_the_journal(rt: HostRuntime) -> Result<(), Fail> {
     let alloc = rt.alloc();
-    let mut fails = Vec::new(alloc);
-    fails.push(6)?;
-    let mut journal = begun(alloc, fails)?;
+    let mut journal = failing_at(alloc, 9)?;
     let entry = no_pages(alloc);
-    assert!(rt; entry.pages.len() == 0);
-    journal.reserve(0)?;
-    assert!(rt; journal.append(&entry) == Err(AppendFault::JournalFault));
+    assert!(rt; refusal(&rt, &mut journal, &entry)? == Some(AppendFault::JournalFault));
     assert_eq!(rt; journal.stopped(), Some(1));
+    assert!(rt; refusal(&rt, &mut journal, &entry)? == Some(AppendFault::Stopped { seq: 1 }));
+    Ok(())
+}
+
+/// A journal of one record, with the pages 2 and 4, as it is recovered.
+fn with_images(rt: &impl Abort, alloc: Global) -> Result<Journal<MemoryDisk>, Fail>
+    ensures { IfOk result (λ journal. journal.next < 2 ^ 64) }
+{
+    let mut journal = recovered(alloc, new_device(alloc)?)?;
+    append(rt, &mut journal, &two_pages(alloc)?)?;
+    Ok(recovered(alloc, journal.into_disk())?)
+}
+
+#[test]
+fn the_last_images_are_taken_once(rt: HostRuntime) -> Result<(), Fail> {
+    let alloc = rt.alloc();
+    let mut journal = with_images(&rt, alloc)?;
+    assert_eq!(rt; journal.place_of(2, 3), Some(88 + 24));
+    assert_eq!(rt; journal.place_of(4, 511), Some(4192 + 4088));
+    assert_eq!(rt; journal.place_of(3, 0), None);
+    let images = journal.take_images();
+    assert_eq!(rt; images.len(), 2);
+    assert!(rt; images.get(2) == Some(&[7; 4096]));
+    assert!(rt; images.get(4) == Some(&[9; 4096]));
+    assert!(rt; images.get(3).is_none());
+    assert_eq!(rt; journal.take_images().len(), 0);
+    Ok(())
+}
+
+/// Closes the first gate of a journal with entries.
+fn close(rt: &impl Abort, journal: &mut Journal<MemoryDisk>) -> Result<(), Fail>
+    requires { journal.old.next < 2 ^ 64 }
+    ensures { OnOk result (journal.new.next ≡ journal.old.next) }
+{
+    assert!(rt; journal.entries().len() > 0);
+    journal.close_first_gate()?;
+    Ok(())
+}
+
+#[test]
+fn a_journal_goes_on_behind_its_first_gate(rt: HostRuntime) -> Result<(), Fail> {
+    let alloc = rt.alloc();
+    let mut journal = with_images(&rt, alloc)?;
+    let entries = journal.entries();
+    assert_eq!(rt; entries.tag(0), 1);
+    assert!(rt; entries.has(2) && entries.has(4) && !entries.has(3));
+    close(&rt, &mut journal)?;
+    assert_eq!(rt; journal.entries().len(), 0);
+    assert!(rt; !journal.entries().has(2));
+    assert_eq!(rt; append(&rt, &mut journal, &no_pages(alloc))?.seq, 2);
+    let journal = recovered(alloc, journal.into_disk())?;
+    assert_eq!(rt; journal.entries().len(), 1);
+    assert_eq!(rt; journal.entries().tag(0), 4);
+    Ok(())
+}
+
+#[test]
+fn a_closed_journal_has_no_records(rt: HostRuntime) -> Result<(), Fail> {
+    let alloc = rt.alloc();
+    let mut journal = with_images(&rt, alloc)?;
+    close(&rt, &mut journal)?;
+    let mut journal = recovered(alloc, journal.into_disk())?;
+    assert!(rt; journal.entries().len() == 0);
+    journal.start_at(9);
+    assert_eq!(rt; append(&rt, &mut journal, &no_pages(alloc))?.seq, 9);
     Ok(())
 }

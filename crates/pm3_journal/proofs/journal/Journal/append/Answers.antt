@@ -24,7 +24,7 @@ invariant_of-self g c =
     let r = record_of c.self.inside.next c.args.entry.now in
     let fit : IsFit c.self.inside.pages (record_of c.self.inside.next c.args.entry.now) = rw (← c.self.view_is) at c.requires.fit in
     let bytes = c.deref.ensures.value ∙ c.encode.ensures.bytes in
-    (keeps_failed _ _ _ _ _ _ _ _ _ _ c.self.invariant.0 idle r fit refl _ bytes _ c.self.inside.next _ _ c.append_body.ensures.crash c.append_body.ensures.told, space_stays c.self.inside.room _ _ _ _ _ c.encode.ensures.capacity c.self.invariant.1)
+    (keeps_failed _ _ _ _ _ _ _ _ _ _ _ c.self.invariant.0 idle r fit refl _ bytes _ c.self.inside.next _ _ c.append_body.ensures.crash c.append_body.ensures.told, space_stays c.self.inside.room _ _ _ _ _ c.encode.ensures.capacity c.self.invariant.1, c.self.invariant.2)
 
 pub returns-in_default-append_body-clause-crash : goal.returns-in_default-append_body-clause-crash
 returns-in_default-append_body-clause-crash g c =
@@ -32,7 +32,7 @@ returns-in_default-append_body-clause-crash g c =
     let r = record_of c.self.inside.next c.args.entry.now in
     let fit : IsFit c.self.inside.pages (record_of c.self.inside.next c.args.entry.now) = rw (← c.self.view_is) at c.requires.fit in
     let bytes = c.deref.ensures.value ∙ c.encode.ensures.bytes in
-    rw (← c.self.view_is) (weaker (λ f. IfTold (g.D.Disk.content c.self.inside.disk) (λ old. HasMaybeOneMore (record_of c.self.inside.next c.args.entry.now) old f)) c.append_body.ensures.crash (maybe_more _ _ _ _ _ _ _ _ _ _ c.self.invariant.0 idle r fit refl _ bytes))
+    rw (← c.self.view_is) (weaker (λ f. IfTold (g.D.Disk.content c.self.inside.disk) (λ old. HasMaybeOneMore (record_of c.self.inside.next c.args.entry.now) old f)) c.append_body.ensures.crash (maybe_more _ _ _ _ _ _ _ _ _ _ _ c.self.invariant.0 idle r fit refl _ bytes))
 
 pub invariant_of-self-2 : goal.invariant_of-self-2
 invariant_of-self-2 g c =
@@ -42,8 +42,8 @@ invariant_of-self-2 g c =
     let bytes = c.deref.ensures.value ∙ c.encode.ensures.bytes in
     let heads_are : c.self.inside.entries.heads ++ head_of (record_of c.self.inside.next c.args.entry.now) ∷ [] ≡ c.add.new.self.heads = ap (λ (h : Head). c.self.inside.entries.heads ++ h ∷ []) (sym c.summarize.ensures) ∙ sym c.add.ensures in
     let size = ap (λ (n : ℕ). c.self.inside.end + n) c.size_of_record-size.ensures.size in
-    let keeps = keeps_grown _ _ _ _ _ _ _ _ _ _ c.self.invariant.0 idle r fit refl _ bytes _ _ _ _ _ c.append_body.ensures.crash c.in-Ok.ensures.done c.in-Ok.ensures.settled size c.successor-self-inside.ensures in
-    (subst (λ (hs : List Head). Keeps c.self.inside.pages (c.self.inside.end + c.size_of_record-size.result) c.successor-self-inside.result true c.self.inside.stopped hs (g.D.Disk.moment c.self.inside.since.value) (g.D.Disk.moment c.append_body.new.disk) (g.D.Disk.content c.append_body.new.disk) (g.D.Disk.images c.append_body.new.disk)) heads_are keeps, tt)
+    let keeps = keeps_grown _ _ _ _ _ _ _ _ _ _ _ c.self.invariant.0 idle r fit refl _ bytes _ _ _ _ _ c.append_body.ensures.crash c.in-Ok.ensures.done c.in-Ok.ensures.settled size c.successor-self-inside.ensures in
+    (subst (λ (hs : List Head). Keeps c.self.inside.pages (c.self.inside.end + c.size_of_record-size.result) c.successor-self-inside.result true c.self.inside.stopped c.self.inside.is_torn hs (g.D.Disk.moment c.self.inside.since.value) (g.D.Disk.moment c.append_body.new.disk) (g.D.Disk.content c.append_body.new.disk) (g.D.Disk.images c.append_body.new.disk)) heads_are keeps, tt, c.self.invariant.2)
 
 pub returns-clause-added : goal.returns-clause-added
 returns-clause-added g c =
@@ -51,7 +51,7 @@ returns-clause-added g c =
     let r = record_of c.self.inside.next c.args.entry.now in
     let fit : IsFit c.self.inside.pages (record_of c.self.inside.next c.args.entry.now) = rw (← c.self.view_is) at c.requires.fit in
     let bytes = c.deref.ensures.value ∙ c.encode.ensures.bytes in
-    rw (← c.self.view_is) (one_more _ _ _ _ _ _ _ _ _ _ c.self.invariant.0 idle r fit refl _ bytes _ c.in-Ok.ensures.done)
+    rw (← c.self.view_is) (one_more _ _ _ _ _ _ _ _ _ _ _ c.self.invariant.0 idle r fit refl _ bytes _ c.in-Ok.ensures.done)
 
 pub returns-clause-crash : goal.returns-clause-crash
 returns-clause-crash g c =
@@ -59,4 +59,4 @@ returns-clause-crash g c =
     let r = record_of c.self.inside.next c.args.entry.now in
     let fit : IsFit c.self.inside.pages (record_of c.self.inside.next c.args.entry.now) = rw (← c.self.view_is) at c.requires.fit in
     let bytes = c.deref.ensures.value ∙ c.encode.ensures.bytes in
-    rw (← c.self.view_is) (weaker (λ f. IfTold (g.D.Disk.content c.self.inside.disk) (λ old. HasMaybeOneMore (record_of c.self.inside.next c.args.entry.now) old f)) c.append_body.ensures.crash (maybe_more _ _ _ _ _ _ _ _ _ _ c.self.invariant.0 idle r fit refl _ bytes))
+    rw (← c.self.view_is) (weaker (λ f. IfTold (g.D.Disk.content c.self.inside.disk) (λ old. HasMaybeOneMore (record_of c.self.inside.next c.args.entry.now) old f)) c.append_body.ensures.crash (maybe_more _ _ _ _ _ _ _ _ _ _ _ c.self.invariant.0 idle r fit refl _ bytes))
