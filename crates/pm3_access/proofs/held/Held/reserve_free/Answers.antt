@@ -1,0 +1,17 @@
+use Rattle.std.proofs.Common.{rules, max, refl}
+use Rattle.pm3_core.specs.declared.naming.TheConstants.{BASE}
+use Rattle.pm3_access.specs.Holding.{by_space, with_free}
+use Rattle.pm3_access.proofs.SoundingHeld.{sound_by_space, sound_result}
+use Rattle.pm3_access.proofs.held.Held.reserve_free.Goals as goal
+
+pub returns-clause-room : goal.returns-clause-room
+returns-clause-room c = search rules
+
+pub returns-clause-refused : goal.returns-clause-refused
+returns-clause-refused c = search rules
+
+pub returns-clause-sound : goal.returns-clause-sound
+returns-clause-sound c =
+    λ catalog pages sound. sound_result catalog BASE pages c.reserve_free.result c.args.self.now _ (by_space (λ s. with_free s s.free (max s.room c.args.more)) c.args.self.now)
+    (returns-clause-room c) (returns-clause-refused c)
+    (sound_by_space catalog BASE pages (λ s. with_free s s.free (max s.room c.args.more)) c.args.self.now (λ s. refl)) sound

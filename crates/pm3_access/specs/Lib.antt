@@ -1,0 +1,9 @@
+pub mod Access
+pub mod Acts
+pub mod FreeList
+pub mod Holding
+pub mod Making
+pub mod Parting
+pub mod Parts
+pub mod Sound
+pub mod Spots

@@ -1,0 +1,134 @@
+-- What stays of a holding when its volatile and its written images are moved out.
+use Rattle.std.specs.Prelude.{ℕ, ◌≡◌, ◌≢◌, ◌<◌, ◌≤◌, ◌+◌, ◌↔◌, ◌⊎◌, List, [], ◌∷◌, Option, None, Some, refl}
+use Rattle.std.specs.Option.{option_map}
+use Rattle.std.specs.FinMap as map
+use Rattle.std.specs.FinSet as set
+use Rattle.std.specs.Coded.{Coded, code_by, coded×, coded_ℕ, coded_list, coded_option}
+use Rattle.pm3_types.specs.Layout.{PageImage}
+use Rattle.pm3_page.specs.PageMap.{Images, PageMap, page_map_code}
+use Rattle.pm3_access.specs.FreeList.{Numbers}
+use Rattle.pm3_access.specs.Holding.{HeldImages, HeldSpaceState, SpaceState, images_code, numbers_code}
+
+-- a held space without its images as they are now
+pub record SpaceRest : Type 0 where
+  pub number : ℕ
+  pub found : Images
+  pub free : Numbers
+  pub room : ℕ
+  pub first : Option ℕ
+  pub current : Option ℕ
+  pub drawn : List ℕ
+
+abbrev pub space_rest_code : Coded SpaceRest
+space_rest_code =
+    code_by (ℕ × (Images × (Numbers × (ℕ × (Option ℕ × (Option ℕ × List ℕ))))))
+    (coded× coded_ℕ (coded× images_code (coded× numbers_code (coded× coded_ℕ (coded× (coded_option coded_ℕ) (coded× (coded_option coded_ℕ) (coded_list coded_ℕ)))))))
+    (λ s. (s.number, (s.found, (s.free, (s.room, (s.first, (s.current, s.drawn)))))))
+    (λ p. record { number = p.0; found = p.1.0; free = p.1.1.0; room = p.1.1.1.0; first = p.1.1.1.1.0; current = p.1.1.1.1.1.0; drawn = p.1.1.1.1.1.1 }) (λ _. refl)
+
+-- the pages held alone that were not written, with the room for the others, all images found, and the rest of the space
+pub record RestState : Type 0 where
+  pub pages : PageMap
+  pub found : Images
+  pub space : Option SpaceRest
+
+abbrev pub rest_code : Coded RestState
+rest_code =
+    code_by (PageMap × (Images × Option SpaceRest)) (coded× page_map_code (coded× images_code (coded_option space_rest_code)))
+    (λ r. (r.pages, (r.found, r.space))) (λ p. record { pages = p.0; found = p.1.0; space = p.1.1 }) (λ _. refl)
+
+-- the space without its images as they are now, and with these
+abbrev pub rest_of : HeldSpaceState → SpaceRest
+rest_of s = record { number = s.number; found = s.images.found; free = s.free; room = s.room; first = s.first; current = s.current; drawn = s.drawn }
+
+abbrev pub with_images : Images → SpaceRest → HeldSpaceState
+with_images volatile s = record {
+  number = s.number;
+  images = record { left = volatile; found = s.found };
+  free = s.free;
+  room = s.room;
+  first = s.first;
+  current = s.current;
+  drawn = s.drawn;
+}
+
+-- the space with other free pages and other room
+abbrev pub rest_with_free : SpaceRest → Numbers → ℕ → SpaceRest
+rest_with_free s free room = record { number = s.number; found = s.found; free = free; room = room; first = s.first; current = s.current; drawn = s.drawn }
+
+-- the images with those of a list
+unfoldable pub added : Images → List (ℕ × PageImage) → Images
+added images [] = images
+added images (e ∷ es) = map.insert (added images es) e.0 e.1
+
+-- the images of both
+abbrev pub both : Images → Images → Images
+both images others = added images (map.entries others)
+
+-- exactly the images that are not as they were found
+abbrev pub AreWritten : HeldImages → Images → Type 0
+AreWritten h written = (page : ℕ) (image : PageImage) → (map.get written page ≡ Some image) ↔ ((map.get h.left page ≡ Some image) × (map.get h.found page ≢ Some image))
+
+-- exactly the images that are as they were found
+abbrev pub AreUnwritten : HeldImages → Images → Type 0
+AreUnwritten h others = (page : ℕ) (image : PageImage) → (map.get others page ≡ Some image) ↔ ((map.get h.left page ≡ Some image) × (map.get h.found page ≡ Some image))
+
+-- the images of the held space as they are now, or none where no space is held
+abbrev pub images_of_space : Option HeldSpaceState → Images
+images_of_space None = map.empty
+images_of_space (Some s) = s.images.left
+
+-- each page of the space that was found has an image among these
+abbrev pub KeepsFound : Option SpaceRest → Images → Type 0
+KeepsFound None volatile = Unit {0}
+KeepsFound (Some s) volatile = (page : ℕ) → map.get volatile page ≡ None → map.get s.found page ≡ None
+
+-- a change of the rest of the held space alone
+abbrev pub rest_by_space : (SpaceRest → SpaceRest) → RestState → RestState
+rest_by_space change r = record { pages = r.pages; found = r.found; space = option_map change r.space }
+
+-- there is room for so many free pages; none is needed where no space is held
+abbrev pub HasRoomFor : Option SpaceRest → ℕ → Type 0
+HasRoomFor None count = Unit {0}
+HasRoomFor (Some s) count = count ≤ s.room
+
+-- there is room for a free page
+abbrev pub HasRestRoom : Option SpaceRest → Type 0
+HasRestRoom None = ⊥
+HasRestRoom (Some s) = 0 < s.room
+
+-- this holds of the free pages of the held space
+abbrev pub RestFreeIs : Option SpaceRest → (Numbers → Type 0) → Type 0
+RestFreeIs None holds = ⊥
+RestFreeIs (Some s) holds = holds s.free
+
+-- the space after a commit: its images as they are now, these pages among the free ones, and no current page
+abbrev pub finished_space : SpaceRest → Images → Numbers → ℕ → SpaceState
+finished_space s volatile freed room = record { number = s.number; images = volatile; free = set.union s.free freed; room = room; current = None }
+
+-- the same of a space or none; no room is lost but that of the pages added
+abbrev pub IsFinished : Option SpaceRest → Images → Numbers → Option SpaceState → Type 0
+IsFinished None volatile freed None = Unit {0}
+IsFinished None volatile freed (Some t) = ⊥
+IsFinished (Some s) volatile freed None = ⊥
+IsFinished (Some s) volatile freed (Some t) = (t ≡ finished_space s volatile freed t.room) × (s.room ≤ t.room + set.len freed)
+
+-- the image of the page was as it was found, and stays
+pub record Stays (page : ℕ) (found : Images) (pages written new_pages new_written : PageMap) : Type 0 where
+  pub same : map.get pages.images page ≡ map.get found page
+  pub pages_same : new_pages ≡ pages
+  pub written_same : new_written ≡ written
+
+-- the image of the page was not as it was found, and was moved
+pub record Moves (page : ℕ) (found : Images) (pages written new_pages new_written : PageMap) (image : PageImage) : Type 0 where
+  pub there : map.get pages.images page ≡ Some image
+  pub differs : map.get found page ≢ Some image
+  pub taken : new_pages.images ≡ map.remove pages.images page
+  pub put : new_written.images ≡ map.insert written.images page image
+  pub pages_room : new_pages.spare ≡ pages.spare + 1
+  pub written_room : new_written.spare + 1 ≡ written.spare
+
+-- one of the two
+abbrev pub IsSettled : ℕ → Images → PageMap → PageMap → PageMap → PageMap → Type 0
+IsSettled page found pages written new_pages new_written =
+    Stays page found pages written new_pages new_written ⊎ ((image : PageImage) × Moves page found pages written new_pages new_written image)

@@ -1,0 +1,130 @@
+ghost use Rattle.std.specs.Prelude.{◌≡◌, ◌+◌, ◌<◌, ◌≤◌, ◌==◌, ◌^◌, max, not, length, filter, slice_index, vec_capacity, OnOk, OnErr, IsSome, MatchOption, Contains, EachIndex};
+ghost use Rattle.std.specs.FinSet as set;
+ghost use Rattle.pm3_page.specs.Next.{IsNext};
+ghost use Rattle.pm3_access.specs.FreeList.{with_pages};
+
+use pm3_page::{PageNo, PageSet};
+use pm3_types::Memory;
+use std::alloc::Global;
+use std::marker::Model;
+
+/// Pages that are free, and room for further ones.
+#[derive(Debug, Drop)]
+pub(crate) struct FreePages {
+    pages: Vec<PageNo>,
+    room: usize,
+}
+
+impl Model for FreePages {
+    ghost use Rattle.std.specs.Prelude.{◌+◌, ◌≤◌, length, vec_capacity};
+    ghost use Rattle.std.specs.FinSet as set;
+    ghost use Rattle.pm3_access.specs.FreeList.{FreeList, free_list_code};
+
+    ghost Value = { FreeList };
+
+    ghost coded = { free_list_code };
+
+    ghost view = { λ f. record { pages = set.from_list f.pages.items; room = f.room } };
+
+    ghost invariant = { λ f. length f.pages.items + f.room ≤ vec_capacity f.pages };
+}
+
+impl FreePages {
+    /// No page, and no room.
+    pub(crate) fn new(alloc: Global) -> FreePages
+        ensures { result ≡ record { pages = set.empty; room = 0 } }
+    {
+        FreePages {
+            pages: Vec::new(alloc),
+            room: 0,
+        }
+    }
+
+    /// How many further pages there is room for.
+    pub(crate) fn room(&self) -> usize
+        ensures { result ≡ self.now.room }
+    {
+        self.room
+    }
+
+    /// Makes room for at least so many further pages.
+    pub(crate) fn reserve(&mut self, more: usize) -> Result<(), Memory>
+        ensures pages { self.new.pages ≡ self.old.pages }
+        ensures room { OnOk result (self.new.room ≡ max self.old.room more) }
+        ensures refused { OnErr result (self.new ≡ self.old) }
+    {
+        if more <= self.room {
+            return Ok(());
+        }
+        let Ok(()) = self.pages.reserve(more) else {
+            return Err(Memory);
+        };
+        self.room = more;
+        Ok(())
+    }
+
+    /// Adds a page, in the room that was made.
+    pub(crate) fn add(&mut self, page: PageNo)
+        requires { 0 < self.old.room }
+        ensures pages { self.new.pages ≡ set.insert self.old.pages page }
+        ensures room { self.new.room + 1 ≡ self.old.room }
+    {
+        let Ok(()) = self.pages.push(page) else {
+            unreachable!()
+        };
+        self.room -= 1;
+    }
+
+    /// Adds all pages of a list, in the room that was made.
+    pub(crate) fn add_all(&mut self, pages: &[PageNo])
+        requires { length pages.now ≤ self.old.room }
+        ensures pages { self.new.pages ≡ with_pages self.old.pages pages.now }
+        ensures room { self.new.room + length pages.now ≡ self.old.room }
+    {
+        for page in pages {
+            self.add(*page);
+        }
+    }
+
+    /// Adds all pages of a set, in the room that was made.
+    pub(crate) fn add_set(&mut self, pages: &PageSet)
+        requires { set.len pages.now ≤ self.old.room }
+        ensures pages { self.new.pages ≡ set.union self.old.pages pages.now }
+        ensures room { self.new.room + set.len pages.now ≡ self.old.room }
+    {
+        let mut from = 0;
+        while let Some(page) = pages.next(from) {
+            self.add(page);
+            from = page + 1;
+        }
+    }
+
+    /// Takes the least page out, or answers None exactly where there is none.
+    pub(crate) fn take_least(&mut self) -> Option<PageNo>
+        ensures least { IsNext (set.contains self.old.pages) 0 result }
+        ensures taken { MatchOption result (self.new ≡ self.old) (λ page. (self.new.pages ≡ set.remove self.old.pages page) × (self.new.room ≡ self.old.room + 1)) }
+        ensures fits { IsSome result → self.new.room < 2 ^ 64 }
+    {
+        let Some(least) = least_of(&self.pages) else {
+            return None;
+        };
+        take_out(&mut self.pages, least);
+        self.room += 1;
+        Some(least)
+    }
+}
+
+/// The least page of a list.
+fn least_of(pages: &[PageNo]) -> Option<PageNo>
+    ensures { MatchOption result (length pages.now ≡ 0) (λ least. Contains pages.now least × EachIndex pages.now (λ k. least ≤ slice_index pages.now k)) }
+{
+    pages.iter().copied().min()
+}
+
+/// Takes a page out of a list.
+fn take_out(pages: &mut Vec<PageNo>, page: PageNo)
+    ensures others { pages.new.items ≡ filter (λ other. not (other == page)) pages.old.items }
+    ensures capacity { vec_capacity pages.new ≡ vec_capacity pages.old }
+{
+    pages.retain(move |other| *other != page);
+}

@@ -1,0 +1,139 @@
+//! A holding that is parted for a commit, and joined, undone or finished.
+ghost use Rattle.std.specs.Prelude.{IfOk};
+ghost use Rattle.pm3_access.specs.Parting.{CanRejoin};
+
+use super::*;
+use crate::tests::{grow, holding, least_free, make, types};
+use pm3_page::{Addr, BASE, Image, PageNo, PageSet, Pages};
+use std::alloc::Global;
+use std::test::Fail;
+
+fn expect(holds: bool) -> Result<(), Fail> {
+    if holds {
+        Ok(())
+    } else {
+        Err(Fail::from("it does not hold"))
+    }
+}
+
+/// Holds page 4 alone, as it is blank.
+fn admit_page_4(held: &mut Held, alloc: Global) -> Result<(), Fail> {
+    let image = Image::blank(alloc, 4)?;
+    if held.image(image.page()).is_some() {
+        return Err(Fail::from("the page is held"));
+    }
+    match held.admit(image) {
+        Ok(()) => Ok(()),
+        Err(_) => Err(Fail::from("no memory")),
+    }
+}
+
+/// Makes an object without bytes, which lies there or nowhere.
+fn makes(held: &mut Held, alloc: Global, at: Option<Addr>) -> Result<(), Fail> {
+    let catalog = types(alloc)?;
+    expect(make(held, &catalog, 0, 1)? == at)
+}
+
+/// A space with an object on page 3, and page 4 held alone.
+fn two_pages(alloc: Global) -> Result<Held, Fail> {
+    let mut held = holding(alloc, Space::new(alloc, 0))?;
+    admit_page_4(&mut held, alloc)?;
+    grow(&mut held, Image::blank(alloc, 3)?)?;
+    makes(&mut held, alloc, Some(BASE + 4096 * 3 + 16))?;
+    Ok(held)
+}
+
+/// Parts a holding.
+fn part(held: Held) -> Result<Parted, Fail>
+    ensures { IfOk result (λ parted. CanRejoin parted) }
+{
+    match held.part() {
+        Ok(parted) => Ok(parted),
+        Err(_) => Err(Fail::from("no memory")),
+    }
+}
+
+/// Page 3 is volatile, and no page was written.
+fn has_no_written_page(parted: &Parted) -> Result<(), Fail> {
+    expect(parted.volatile.get(3).is_some())?;
+    expect(parted.written.is_empty())
+}
+
+#[test]
+fn a_parted_holding_is_joined_again(rt: HostRuntime) -> Result<(), Fail> {
+    let parted = part(two_pages(rt.alloc())?)?;
+    has_no_written_page(&parted)?;
+    let mut held = parted.rejoin();
+    expect(held.has(4))?;
+    makes(&mut held, rt.alloc(), Some(BASE + 4096 * 3 + 40))
+}
+
+/// Takes the least free page, which is this one or none.
+fn takes_free(held: &mut Held, page: Option<PageNo>) -> Result<(), Fail> {
+    expect(least_free(held)? == page)
+}
+
+/// Page 4 comes back, and no page that was written.
+fn gives_page_4(pages: &Pages, written: &Pages) -> Result<(), Fail> {
+    expect(pages.get(4).is_some())?;
+    expect(written.is_empty())
+}
+
+fn given(space: Option<Space>) -> Result<Space, Fail> {
+    match space {
+        Some(space) => Ok(space),
+        None => Err(Fail::from("the space is lost")),
+    }
+}
+
+/// The page is free, and no other one, and there is no current page.
+fn has_one_free_page(space: Space, alloc: Global, page: PageNo) -> Result<(), Fail> {
+    let mut held = holding(alloc, space)?;
+    makes(&mut held, alloc, None)?;
+    takes_free(&mut held, Some(page))?;
+    takes_free(&mut held, None)
+}
+
+#[test]
+fn pages_that_were_drawn_are_free_after_a_parted_holding_is_undone(
+    rt: HostRuntime,
+) -> Result<(), Fail> {
+    let Undone {
+        pages,
+        written,
+        space,
+    } = part(two_pages(rt.alloc())?)?.undo();
+    gives_page_4(&pages, &written)?;
+    let space = given(space)?;
+    expect(!space.has(3))?;
+    has_one_free_page(space, rt.alloc(), 3)
+}
+
+/// Finishes a commit with one page set free.
+fn finish(mut parted: Parted, alloc: Global, page: PageNo) -> Result<Undone, Fail>
+    requires { CanRejoin parted }
+{
+    if page >= 16384 {
+        return Err(Fail::from("no such page"));
+    }
+    let mut freed = PageSet::new(alloc);
+    freed.add(page)?;
+    if !parted.has_space() {
+        return Err(Fail::from("no space is held"));
+    }
+    parted.reserve_free(freed.len())?;
+    Ok(parted.finish(&freed))
+}
+
+#[test]
+fn a_commit_leaves_the_pages_as_they_are_now(rt: HostRuntime) -> Result<(), Fail> {
+    let Undone {
+        pages,
+        written,
+        space,
+    } = finish(part(two_pages(rt.alloc())?)?, rt.alloc(), 7)?;
+    gives_page_4(&pages, &written)?;
+    let space = given(space)?;
+    expect(space.has(3))?;
+    has_one_free_page(space, rt.alloc(), 7)
+}
