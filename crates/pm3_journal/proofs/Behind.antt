@@ -1,10 +1,10 @@
 -- A record that was put is read back.
-use Rattle.std.proofs.Common.{◌≡◌, ◌+◌, ◌*◌, ◌-◌, ◌<◌, ◌≤◌, ◌^◌, ℕ, Bool, true, ◌&&◌, leb, ltb, List, [], ◌∷◌, ◌++◌, length, take, drop, Option, Some, None, refl, sym, ◌∙◌, ap, subst, arith, append_assoc, length-append, length-drop, if◌then◌else◌}
+use Rattle.std.proofs.Common.{◌≡◌, ◌+◌, ◌*◌, ◌-◌, ◌<◌, ◌≤◌, ◌^◌, ℕ, zero, suc, map, Bool, true, ◌&&◌, leb, ltb, List, [], ◌∷◌, ◌++◌, length, take, drop, get_or, Option, Some, None, refl, sym, ◌∙◌, ap, subst, arith, append_assoc, length-append, length-drop, if◌then◌else◌}
 use Rattle.std.specs.Int.{w32, to_le_bytes, from_le_bytes}
 use Rattle.std.proofs.lemmas.Bool.{and_from, le-leb, lt-ltb}
 use Rattle.std.proofs.lemmas.List.{drop-drop, take_at, drop_at}
 use Rattle.std.proofs.lemmas.Nat.{from_le_bytes-to_le_bytes_4, from_le_bytes-to_le_bytes_8}
-use Rattle.pm3_journal.specs.Format.{PagePart, Image, Record, parts_bytes, body, parts_size, AreParts, IsFit}
+use Rattle.pm3_journal.specs.Format.{PagePart, Image, page_in, Record, parts_bytes, body, parts_size, AreParts, IsFit}
 use Rattle.pm3_journal.specs.Reading.{State, Found, Parts, Good, piece, all_zero, is_due, seq_of, name_of, number_of, high_of, front_damage, part_damage, with_part, parts_at, record_with, record_at}
 use Rattle.pm3_journal.proofs.Placing.{HasRead, IsStanding, reads_so}
 
@@ -17,15 +17,21 @@ pub count_parts : (parts : List PagePart) → parts_size parts ≡ 4104 * length
 count_parts [] = refl
 count_parts (Image page image ∷ parts) = omega (arith, count_parts parts)
 
+-- the pages of a record are those of the store
+pub parts_low : (pages last : ℕ) (parts : List PagePart) → AreParts pages last parts → (k d : ℕ) → k < length (map page_in parts) → get_or (map page_in parts) k d < pages
+parts_low pages last [] are k d below = absurd (omega (arith, below))
+parts_low pages last (Image page image ∷ parts) are zero d below = are.1
+parts_low pages last (Image page image ∷ parts) are (suc k) d below = parts_low pages page parts are.3 k d (omega (arith, below))
+
 pub length_body : (pages : ℕ) (r : Record) → IsFit pages r → length (body r) ≡ 47 + parts_size r.parts
 unfolding body
 length_body pages r fit = omega (arith, length_parts pages 1 r.parts fit.parts)
 
 part_fine : (pages last : ℕ) (field : List ℕ) → last < from_le_bytes w32 field → from_le_bytes w32 field < pages → all_zero (take 4 (drop 4 field)) ≡ true → part_damage pages last field ≡ None
 unfolding part_damage
-part_fine pages last field above below zero =
+part_fine pages last field above below blank =
     let in_order : (ltb last (from_le_bytes w32 field) && ltb (from_le_bytes w32 field) pages) ≡ true = and_from _ _ (lt-ltb _ _ above) (lt-ltb _ _ below) in
-    ap (λ (b : Bool). if b then (if all_zero (take 4 (drop 4 field)) then None else Some 4) else Some 0) in_order ∙ ap (λ (b : Bool). if b then None else Some 4) zero
+    ap (λ (b : Bool). if b then (if all_zero (take 4 (drop 4 field)) then None else Some 4) else Some 0) in_order ∙ ap (λ (b : Bool). if b then None else Some 4) blank
 
 front_fine : (pages : ℕ) (front : List ℕ) → all_zero (take 7 (drop 1 front)) ≡ true → 1 ≤ name_of front → name_of front ≤ 2 ^ 62 → number_of front < pages → 3 ≤ high_of front → high_of front ≤ pages → all_zero (take 4 (drop 44 front)) ≡ true → front_damage pages front ≡ None
 unfolding front_damage

@@ -5,6 +5,7 @@ use Rattle.pm3_disk.specs.Faults.{Rose}
 use Rattle.pm3_disk.specs.Moments.{After, IsSettled, Passes}
 use Rattle.pm3_disk.proofs.Passing.{no_call, weaker, then_look, at_last}
 use Rattle.pm3_journal.specs.Calm.{IsCalm}
+use Rattle.pm3_journal.specs.Stretch.{IsOver}
 
 pub calm_start : (content : Option (List ℕ)) (t : ℕ) (i : ℕ → List ℕ → Type 0) (f : ℕ) → IsCalm content content t t i i f f
 calm_start content t i f = record { same = refl; crash = no_call (After (i t) Unchanged); later = omega arith }
@@ -28,3 +29,7 @@ settled_on {a} {b} {t0} {t1} {i0} {i1} calm settled = record { only = λ image i
   where
     still : (c : List ℕ) → After (i0 t0) Unchanged c → a ≡ Some c
     still c (earlier, from, same) = settled.only earlier from ∙ ap Some (sym same)
+
+-- a window over a device stays over it
+pub over_on : {start filled : ℕ} {block : List ℕ} {a b : Option (List ℕ)} {t0 t1 : ℕ} {i0 i1 : ℕ → List ℕ → Type 0} {f0 f1 : ℕ} → IsOver start filled block a → IsCalm a b t0 t1 i0 i1 f0 f1 → IsOver start filled block b
+over_on over calm = record { size = over.size; bound = over.bound; bytes = λ bytes told. over.bytes bytes (sym calm.same ∙ told) }

@@ -2,6 +2,7 @@
 use Rattle.std.proofs.Common.{◌≡◌, ⊎_elim, ◌+◌, ◌-◌, ◌<◌, ◌≤◌, ℕ, List, length, take, drop, min, sym, ◌∙◌, ap, arith}
 use Rattle.std.proofs.lemmas.Bool.{cases_lt}
 use Rattle.std.proofs.lemmas.List.{take_all, take-take, drop-take, drop-drop}
+use Rattle.pm3_disk.specs.Content.{IsRead}
 use Rattle.pm3_journal.specs.Reading.{piece}
 
 -- a piece of the block is the piece of the bytes that the block is over
@@ -28,3 +29,9 @@ front_read bytes block front filled front_is over size =
     long no_less =
         let all : min filled 32 ≡ 32 = omega (arith, size, no_less) in
         ap (λ (n : ℕ). take n bytes) all
+
+-- a piece that lies within the bytes is read whole
+pub whole_piece : (bytes out : List ℕ) (at count n : ℕ) → length out ≡ n → at + n ≤ length bytes → IsRead bytes at count out → out ≡ piece at n bytes
+whole_piece bytes out at count n len within read =
+    let all : count ≡ n = omega (arith, read.size, len, within) in
+    sym (take_all count out (omega (arith, all, len))) ∙ read.given ∙ ap (λ (m : ℕ). take m (drop at bytes)) all

@@ -1,5 +1,6 @@
 //! The heads of a journal's entries.
-ghost use Rattle.std.specs.Prelude.{◌≡◌, ◌+◌, ◌^◌, ◌<◌, ◌≤◌, [], ◌∷◌, ◌++◌, length, slice_index_or, OnOk};
+ghost use Rattle.std.specs.Prelude.{◌≡◌, ℕ, ◌+◌, ◌^◌, ◌<◌, ◌≤◌, ◌==◌, ◌||◌, false, [], ◌∷◌, ◌++◌, length, get_or, slice_index_or, All, IfOk, OnOk};
+ghost use Rattle.std.specs.List.{list_any};
 ghost use Rattle.pm3_journal.specs.Heads.{has_page, Head};
 
 use pm3_disk::Memory;
@@ -26,31 +27,36 @@ impl Model for EntryHead {
     ghost view = { λ h. record { seq = h.seq; next_name = h.next_name; tag = h.tag; high_page = h.high_page; pins = h.pins; moved = h.moved; pages = h.pages.items } };
 }
 
-/// The heads of the entries of a journal, in order. A contract sees them as a list, and for how many there is space.
+/// The heads of the entries of a journal, in order. A contract sees them as a list, for how many there is space, and how
+/// many pages the store has.
 #[derive(Drop)]
 pub struct Entries {
     heads: Vec<EntryHead>,
+    /// For each page of the store whether an entry has it.
+    seen: Vec<bool>,
 }
 
 impl Model for Entries {
-    ghost use Rattle.std.specs.Prelude.{◌^◌, ◌<◌, vec_len, vec_capacity};
-    ghost use Rattle.pm3_journal.specs.Heads.{HeadList};
+    ghost use Rattle.std.specs.Prelude.{◌^◌, ◌<◌, length, vec_len, vec_capacity};
+    ghost use Rattle.pm3_journal.specs.Heads.{HeadList, IsTableOf};
 
     ghost Value = { HeadList };
 
-    ghost view = { λ e. record { heads = e.heads.items; slots = vec_capacity e.heads } };
+    ghost view = { λ e. record { heads = e.heads.items; slots = vec_capacity e.heads; pages = length e.seen.items } };
 
-    ghost invariant = { λ e. vec_len e.heads < 2 ^ 32 };
+    ghost invariant = { λ e. (vec_len e.heads < 2 ^ 32) × IsTableOf e.heads.items e.seen.items };
 }
 
 impl Entries {
-    /// No entries.
-    pub(crate) fn new(alloc: Global) -> Entries
-        ensures { result.heads ≡ [] }
+    /// No entries, of a store of so many pages.
+    pub(crate) fn new(alloc: Global, pages: u32) -> Result<Entries, Memory>
+        ensures { IfOk result (λ entries. (entries.heads ≡ []) × (entries.pages ≡ pages)) }
     {
-        Entries {
+        let seen = vec![in alloc; false; pages as usize]?;
+        Ok(Entries {
             heads: Vec::new(alloc),
-        }
+            seen,
+        })
     }
 
     /// How many entries there are.
@@ -72,7 +78,10 @@ impl Entries {
     pub fn has(&self, page: u32) -> bool
         ensures { result ≡ has_page self.now.heads page }
     {
-        self.heads.iter().any(|head| head.pages.contains(&page))
+        match self.seen.get(page as usize) {
+            Some(seen) => *seen,
+            None => false,
+        }
     }
 
     /// Makes room for one more. More than 2^32 - 1 count as too many for the memory.
@@ -81,6 +90,7 @@ impl Entries {
         ensures few { OnOk result (length self.new.heads + 1 < 2 ^ 32) }
         ensures no_less { self.old.slots ≤ self.new.slots }
         ensures same { self.new.heads ≡ self.old.heads }
+        ensures pages { self.new.pages ≡ self.old.pages }
     {
         if self.len() == u32::MAX {
             return Err(Memory);
@@ -93,17 +103,43 @@ impl Entries {
     pub(crate) fn clear(&mut self)
         ensures none { self.new.heads ≡ [] }
         ensures slots { self.new.slots ≡ self.old.slots }
+        ensures pages { self.new.pages ≡ self.old.pages }
     {
         self.heads.clear();
+        forget(&mut self.seen);
     }
 
-    /// Adds a head, for which there is room.
+    /// Adds a head, for which there is room, of pages of the store.
     pub(crate) fn add(&mut self, head: EntryHead)
         requires slot { length self.old.heads < self.old.slots }
         requires few { length self.old.heads + 1 < 2 ^ 32 }
-        ensures { self.new.heads ≡ self.old.heads ++ head ∷ [] }
+        requires pages { All (λ page. page < self.old.pages) head.pages }
+        ensures heads { self.new.heads ≡ self.old.heads ++ head ∷ [] }
+        ensures pages { self.new.pages ≡ self.old.pages }
     {
+        note(&mut self.seen, &head.pages);
         let pushed = self.heads.push(head);
         let Ok(()) = pushed else { unreachable!() };
+    }
+}
+
+/// Notes these pages in a table.
+fn note(seen: &mut Vec<bool>, pages: &[u32])
+    requires { All (λ page. page < length seen.old.items) pages.now }
+    ensures noted { (q : ℕ) → get_or seen.new.items q false ≡ (list_any (λ page. page == q) pages.now || get_or seen.old.items q false) }
+    ensures size { length seen.new.items ≡ length seen.old.items }
+{
+    for page in pages {
+        seen[*page as usize] = true;
+    }
+}
+
+/// Leaves no page in a table.
+fn forget(seen: &mut Vec<bool>)
+    ensures none { (q : ℕ) → get_or seen.new.items q false ≡ false }
+    ensures size { length seen.new.items ≡ length seen.old.items }
+{
+    for i in 0..seen.len() {
+        seen[i] = false;
     }
 }

@@ -74,11 +74,11 @@ pub(crate) fn blank_table(alloc: Global, pages: u32) -> Result<Vec<Option<u64>>,
 /// The images at the places of a table, in order of their pages. Memory is taken once for all of them.
 pub(crate) fn read_images<D: Disk>(
     alloc: Global,
-    window: &mut Window,
+    window: &Window,
     disk: &mut D,
     places: &[Option<u64>],
 ) -> Result<FilePages, RecoverFault>
-    requires over { IsOver window.old.start window.old.filled window.old.block.items (D.content disk.old) }
+    requires over { IsOver window.now.start window.now.filled window.now.block.items (D.content disk.old) }
     requires within { IfTold (D.content disk.old) (λ bytes. (page place : ℕ) → get_or places.now page None ≡ Some place → place + 4096 ≤ length bytes) }
     requires few { length places.now ≤ 16384 }
     ensures images { IfOk result (λ images. IfTold (D.content disk.old) (λ bytes. images.items ≡ images_at 0 places.now bytes)) }
@@ -100,20 +100,19 @@ pub(crate) fn read_images<D: Disk>(
 
 /// Adds the image of a page, where it has a place. There is room for it.
 fn add_image<D: Disk>(
-    window: &mut Window,
+    window: &Window,
     disk: &mut D,
     page: u32,
     place: Option<u64>,
     images: &mut FilePages,
 ) -> Result<(), Failed>
-    requires over { IsOver window.old.start window.old.filled window.old.block.items (D.content disk.old) }
+    requires over { IsOver window.now.start window.now.filled window.now.block.items (D.content disk.old) }
     requires within { IfTold (D.content disk.old) (λ bytes. (at : ℕ) → place ≡ Some at → at + 4096 ≤ length bytes) }
     requires below { AreBelow page images.old.items }
     requires room { has_place place ≡ true → 0 < images.old.room }
     ensures added { OnOk result (IfTold (D.content disk.old) (λ bytes. images.new.items ≡ images.old.items ++ one_at page place bytes)) }
     ensures below { OnOk result (AreBelow (page + 1) images.new.items) }
     ensures room { OnOk result (images.old.room ≤ images.new.room + number_of_places (place ∷ [])) }
-    ensures over { OnOk result (IsOver window.new.start window.new.filled window.new.block.items (D.content disk.new)) }
     ensures calm { Calm D.content D.moment D.images D.faults disk.old disk.new }
     ensures cause { HasCause (D.faults disk.old) (D.faults disk.new) result }
 {
@@ -121,7 +120,7 @@ fn add_image<D: Disk>(
         return Ok(());
     };
     let mut image = [0; 4096];
-    window.read(disk, at, &mut image)?;
+    window.read_beside(disk, at, &mut image)?;
     images.push(page, &image);
     Ok(())
 }
@@ -172,6 +171,7 @@ pub(crate) fn read_journal<D: Disk>(
     ensures first { IfOk result (λ found. found.list.entries.heads ≡ [] → found.next ≡ 1) }
     ensures images { IfOk result (λ found. IfTold (D.content disk.old) (λ bytes. found.images.items ≡ images_at 0 found.places.items bytes)) }
     ensures low { IfOk result (λ found. AreLow found.places.items) }
+    ensures table { IfOk result (λ found. found.list.entries.pages ≡ found.pages) }
     ensures damaged { (offset : ℕ) → IsErrOf result (RecoverFault.Damaged offset) → IfTold (D.content disk.old) (λ bytes. records bytes ≡ Damaged offset) }
     ensures fault { IsErrOf result RecoverFault.JournalFault → Rose (D.faults disk.old) (D.faults disk.new) }
     ensures calm { Calm D.content D.moment D.images D.faults disk.old disk.new }
@@ -194,7 +194,7 @@ pub(crate) fn read_journal<D: Disk>(
     let Ok(is_closed) = gate_is_closed(&mut window, disk, list.end, len) else {
         return Err(RecoverFault::JournalFault);
     };
-    let images = match read_images(alloc, &mut window, disk, &places) {
+    let images = match read_images(alloc, &window, disk, &places) {
         Ok(images) => images,
         Err(fault) => return Err(fault),
     };
@@ -220,6 +220,7 @@ pub(crate) fn find<D: Disk>(alloc: Global, disk: &mut D) -> Result<Found, Recove
     ensures first { IfOk result (λ found. found.list.entries.heads ≡ [] → found.next ≡ 1) }
     ensures images { IfOk result (λ found. IfTold (D.content disk.old) (λ bytes. found.images.items ≡ images_at 0 found.places.items bytes)) }
     ensures low { IfOk result (λ found. AreLow found.places.items) }
+    ensures table { IfOk result (λ found. found.list.entries.pages ≡ found.pages) }
     ensures damaged { (offset : ℕ) → IsErrOf result (RecoverFault.Damaged offset) → IfTold (D.content disk.old) (λ bytes. records bytes ≡ Damaged offset) }
     ensures fault { IsErrOf result RecoverFault.JournalFault → Rose (D.faults disk.old) (D.faults disk.new) }
     ensures settled { OnOk result (IsSettled (D.content disk.new) (D.images disk.new (D.moment disk.new))) }

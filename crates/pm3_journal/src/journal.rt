@@ -56,7 +56,7 @@ pub struct Journal<D: Disk> {
 }
 
 impl<D: Disk> Model for Journal<D> {
-    ghost use Rattle.std.specs.Prelude.{length, vec_capacity};
+    ghost use Rattle.std.specs.Prelude.{◌≡◌, length, vec_capacity};
     ghost use Rattle.pm3_journal.specs.Shown.{Shown, shown_code};
 
     ghost Value = { Shown D };
@@ -69,7 +69,7 @@ impl<D: Disk> Model for Journal<D> {
     ghost view = { λ j. record { disk = j.disk; pages = j.pages; heads = j.entries.heads; end = j.end; next = j.next; is_closed = j.is_closed; stopped = j.stopped; is_torn = j.is_torn; since = D.moment j.since.value; room = j.room; images = j.images.items; places = j.places.items } };
 
     ghost invariant = { λ j. Keeps j.pages j.end j.next j.is_closed j.stopped j.is_torn j.entries.heads (D.moment j.since.value) (D.moment j.disk) (D.content j.disk) (D.images j.disk)
-        × HasSpace j.room (vec_capacity j.buffer) (vec_capacity j.numbers) (length j.entries.heads) j.entries.slots × AreLow j.places.items };
+        × HasSpace j.room (vec_capacity j.buffer) (vec_capacity j.numbers) (length j.entries.heads) j.entries.slots × AreLow j.places.items × (j.entries.pages ≡ j.pages) };
 }
 
 /// The sequence number after this one.

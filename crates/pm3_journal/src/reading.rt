@@ -1,5 +1,5 @@
 //! One record, read from a device.
-ghost use Rattle.std.specs.Prelude.{◌≡◌, ◌+◌, ◌-◌, ◌*◌, ◌^◌, ◌<◌, ◌≤◌, ℕ, true, false, length, Option, Some, None, IfOk, OnOk, IfSome, IfNone, IsErrOf};
+ghost use Rattle.std.specs.Prelude.{All, ◌≡◌, ◌+◌, ◌-◌, ◌*◌, ◌^◌, ◌<◌, ◌≤◌, ℕ, true, false, length, Option, Some, None, IfOk, OnOk, IfSome, IfNone, IsErrOf};
 ghost use Rattle.pm3_disk.specs.Content.{IfTold};
 ghost use Rattle.pm3_disk.specs.Faults.{HasCause, Rose};
 ghost use Rattle.pm3_journal.specs.Calm.{Calm};
@@ -72,6 +72,7 @@ fn read_parts<D: Disk>(
     requires low { AreLow places.old }
     ensures good { IfOk result (λ numbers. IfTold (D.content disk.old) (λ bytes. HasParts count (length places.old) at bytes numbers.items places.old places.new)) }
     ensures number { IfOk result (λ numbers. length numbers.items ≡ count) }
+    ensures pages { IfOk result (λ numbers. All (λ page. page < length places.old) numbers.items) }
     ensures damaged { (offset : ℕ) → IsErrOf result (RecoverFault.Damaged offset) → IfTold (D.content disk.old) (λ bytes. parts_at count (length places.old) 1 at bytes ≡ Bad offset) }
     ensures fault { IsErrOf result RecoverFault.JournalFault → Rose (D.faults disk.old) (D.faults disk.new) }
     ensures over { OnOk result (IsOver window.new.start window.new.filled window.new.block.items (D.content disk.new)) }
@@ -120,6 +121,7 @@ pub(crate) fn read_record<D: Disk>(
     requires low { AreLow places.old }
     ensures good { IfOk result (λ head. IfTold (D.content disk.old) (λ bytes. HasRecord (record { pages = length places.old; due = due }) at bytes head places.old places.new)) }
     ensures number { IfOk result (λ head. length head.pages ≡ number_of front.now) }
+    ensures pages { IfOk result (λ head. All (λ page. page < length places.old) head.pages) }
     ensures damaged { (offset : ℕ) → IsErrOf result (RecoverFault.Damaged offset) → IfTold (D.content disk.old) (λ bytes. record_at (record { pages = length places.old; due = due }) at bytes ≡ Broken offset) }
     ensures fault { IsErrOf result RecoverFault.JournalFault → Rose (D.faults disk.old) (D.faults disk.new) }
     ensures over { OnOk result (IsOver window.new.start window.new.filled window.new.block.items (D.content disk.new)) }

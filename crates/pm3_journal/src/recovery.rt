@@ -42,6 +42,7 @@ pub(crate) fn read_list<D: Disk>(
     ensures good { IfOk result (λ list. IfTold (D.content disk.old) (λ bytes. HasList (length places.old) list.end list.due list.entries.heads places.new bytes)) }
     ensures ends { IfOk result (λ list. IfTold (D.content disk.old) (λ bytes. record_at (record { pages = length places.old; due = list.due }) list.end bytes ≡ Ends)) }
     ensures within { IfOk result (λ list. list.end ≤ len) }
+    ensures pages { IfOk result (λ list. list.entries.pages ≡ length places.old) }
     ensures first { IfOk result (λ list. list.entries.heads ≡ [] → list.due ≡ None) }
     ensures damaged { (offset : ℕ) → IsErrOf result (RecoverFault.Damaged offset) → IfTold (D.content disk.old) (λ bytes. records bytes ≡ Damaged offset) }
     ensures fault { IsErrOf result RecoverFault.JournalFault → Rose (D.faults disk.old) (D.faults disk.new) }
@@ -50,7 +51,9 @@ pub(crate) fn read_list<D: Disk>(
     ensures low { AreLow places.new }
     ensures calm { Calm D.content D.moment D.images D.faults disk.old disk.new }
 {
-    let mut entries = Entries::new(alloc);
+    let Ok(mut entries) = Entries::new(alloc, places.len() as u32) else {
+        return Err(RecoverFault::Memory);
+    };
     let mut end = 32;
     let mut due = None;
     while end < len {

@@ -13,7 +13,7 @@ use std::test::Fail;
 /// An entry of the pages 2 and 4.
 pub(crate) fn two_pages(alloc: Global) -> Result<Entry, Memory>
     ensures few { IfOk result (λ entry. length entry.pages.items ≡ 2) }
-    ensures fit { IfOk result (λ entry. (seq : ℕ) → seq < 2 ^ 64 → IsFit 16 (record_of seq entry)) }
+    ensures fit { IfOk result (λ entry. (pages seq : ℕ) → 16 ≤ pages → pages ≤ 16384 → seq < 2 ^ 64 → IsFit pages (record_of seq entry)) }
 {
     let mut pages = FilePages::new(alloc);
     pages.reserve(2)?;
@@ -32,7 +32,7 @@ pub(crate) fn two_pages(alloc: Global) -> Result<Entry, Memory>
 /// An entry without pages.
 pub(crate) fn no_pages(alloc: Global) -> Entry
     ensures few { length result.pages.items ≡ 0 }
-    ensures fit { (seq : ℕ) → seq < 2 ^ 64 → IsFit 16 (record_of seq result) }
+    ensures fit { (pages seq : ℕ) → 16 ≤ pages → pages ≤ 16384 → seq < 2 ^ 64 → IsFit pages (record_of seq result) }
 {
     Entry {
         tag: 4,
@@ -44,10 +44,13 @@ pub(crate) fn no_pages(alloc: Global) -> Entry
     }
 }
 
-/// The device of a new journal for 16 pages.
-pub(crate) fn new_device(alloc: Global) -> Result<MemoryDisk, Fail> {
+/// The device of a new journal.
+pub(crate) fn new_device(alloc: Global, pages: u32) -> Result<MemoryDisk, Fail>
+    requires least { 16 ≤ pages }
+    requires most { pages ≤ 16384 }
+{
     let mut disk = MemoryDisk::new(alloc, Vec::new(alloc), Vec::new(alloc));
-    create(&mut disk, 16)?;
+    create(&mut disk, pages)?;
     Ok(disk)
 }
 
@@ -72,10 +75,10 @@ pub(crate) fn append(
 ) -> Result<Receipt, Fail>
     requires next { journal.old.next < 2 ^ 64 }
     requires few { length entry.now.pages.items ≤ 2 }
-    requires fit { (seq : ℕ) → seq < 2 ^ 64 → IsFit 16 (record_of seq entry.now) }
+    requires fit { (pages seq : ℕ) → 16 ≤ pages → pages ≤ 16384 → seq < 2 ^ 64 → IsFit pages (record_of seq entry.now) }
     ensures { OnOk result (journal.new.next ≡ next_seq journal.old.next) }
 {
-    assert!(rt; journal.pages() == 16);
+    assert!(rt; 16 <= journal.pages() && journal.pages() <= 16384);
     journal.reserve(2)?;
     let receipt = journal.append(entry)?;
     Ok(receipt)
@@ -93,7 +96,7 @@ fn failing_at(alloc: Global, call: u32) -> Result<Journal<MemoryDisk>, Fail>
 #[test]
 fn a_record_is_added(rt: HostRuntime) -> Result<(), Fail> {
     let alloc = rt.alloc();
-    let mut journal = recovered(alloc, new_device(alloc)?)?;
+    let mut journal = recovered(alloc, new_device(alloc, 64)?)?;
     assert_eq!(rt;
         append(&rt, &mut journal, &two_pages(alloc)?)?,
         Receipt {
@@ -118,7 +121,7 @@ fn a_record_is_added(rt: HostRuntime) -> Result<(), Fail> {
 #[test]
 fn a_record_may_have_no_pages(rt: HostRuntime) -> Result<(), Fail> {
     let alloc = rt.alloc();
-    let mut journal = recovered(alloc, new_device(alloc)?)?;
+    let mut journal = recovered(alloc, new_device(alloc, 64)?)?;
     append(&rt, &mut journal, &no_pages(alloc))?;
     assert_eq!(rt; journal.into_disk().bytes().len(), 88);
     Ok(())
@@ -132,10 +135,10 @@ fn refusal(
 ) -> Result<Option<AppendFault>, Fail>
     requires next { journal.old.next < 2 ^ 64 }
     requires few { length entry.now.pages.items ≤ 2 }
-    requires fit { (seq : ℕ) → seq < 2 ^ 64 → IsFit 16 (record_of seq entry.now) }
+    requires fit { (pages seq : ℕ) → 16 ≤ pages → pages ≤ 16384 → seq < 2 ^ 64 → IsFit pages (record_of seq entry.now) }
     ensures { OnOk result (journal.new.next < 2 ^ 64) }
 {
-    assert!(rt; journal.pages() == 16);
+    assert!(rt; 16 <= journal.pages() && journal.pages() <= 16384);
     journal.reserve(2)?;
     match journal.append(entry) {
         Ok(_) => Ok(None),
@@ -158,7 +161,7 @@ fn a_fault_stops_the_journal(rt: HostRuntime) -> Result<(), Fail> {
 fn with_images(rt: &impl Abort, alloc: Global) -> Result<Journal<MemoryDisk>, Fail>
     ensures { IfOk result (λ journal. journal.next < 2 ^ 64) }
 {
-    let mut journal = recovered(alloc, new_device(alloc)?)?;
+    let mut journal = recovered(alloc, new_device(alloc, 64)?)?;
     append(rt, &mut journal, &two_pages(alloc)?)?;
     Ok(recovered(alloc, journal.into_disk())?)
 }

@@ -95,6 +95,30 @@ impl Window {
     }
 }
 
+impl Window {
+    /// Reads a piece, which lies within the device, and leaves the window where it is.
+    pub(crate) fn read_beside<D: Disk>(
+        &self,
+        disk: &mut D,
+        at: u64,
+        out: &mut [u8],
+    ) -> Result<(), Failed>
+        requires over { IsOver self.now.start self.now.filled self.now.block.items (D.content disk.old) }
+        requires within { IfTold (D.content disk.old) (λ bytes. at + length out.old ≤ length bytes) }
+        ensures piece { OnOk result (IfTold (D.content disk.old) (λ bytes. out.new ≡ piece at (length out.old) bytes)) }
+        ensures calm { Calm D.content D.moment D.images D.faults disk.old disk.new }
+        ensures cause { HasCause (D.faults disk.old) (D.faults disk.new) result }
+    {
+        if self.give(at, out) {
+            return Ok(());
+        }
+        match disk.read_at(at, out) {
+            Ok(_) => Ok(()),
+            Err(failed) => Err(failed),
+        }
+    }
+}
+
 /// Reads into a block, and answers how many bytes.
 fn read_block<D: Disk>(disk: &mut D, at: u64, block: &mut [u8]) -> Result<usize, Failed>
     requires { length block.old ≡ 65536 }

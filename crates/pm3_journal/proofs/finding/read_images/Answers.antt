@@ -1,12 +1,12 @@
 use Rattle.std.proofs.Common.{◌++◌, ℕ, List, get_or, None, sym, ◌∙◌, ap, arith}
 use Rattle.pm3_journal.specs.Places.{one_at}
-use Rattle.pm3_journal.proofs.Calmly.{calm_on}
+use Rattle.pm3_journal.proofs.Calmly.{calm_on, over_on}
 use Rattle.pm3_journal.proofs.Picturing.{images_step, room_step, room_there}
 use Rattle.pm3_journal.proofs.finding.read_images.Goals as goal
 
 pub loop-page-preserved : goal.loop-page-preserved
 loop-page-preserved g c = record {
-  over = c.in-Ok-add_image.ensures.over;
+  over = over_on c.loop-page.invariant.over c.add_image.ensures.calm;
   calm = calm_on c.loop-page.invariant.calm c.add_image.ensures.calm;
   below = c.in-Ok-add_image.ensures.below;
   room = room_step c.args.places.now c.loop-page.page _ _ (omega arith) c.loop-page.invariant.room c.in-Ok-add_image.ensures.room;

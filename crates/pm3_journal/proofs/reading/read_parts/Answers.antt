@@ -1,4 +1,5 @@
-use Rattle.std.proofs.Common.{◌≡◌, ◌+◌, ◌*◌, ◌^◌, ◌<◌, ℕ, length, Some, None, refl, sym, ◌∙◌, ap, arith, length-set}
+use Rattle.std.proofs.Common.{◌≡◌, ◌+◌, ◌*◌, ◌^◌, ◌<◌, ℕ, length, Some, None, All, refl, sym, ◌∙◌, ap, subst, arith, length-set}
+use Rattle.std.proofs.lemmas.List.Elements.{All-push}
 use Rattle.std.specs.Int.{w32, from_le_bytes}
 use Rattle.pm3_journal.specs.Reading.{Bad, part_damage, piece}
 use Rattle.pm3_journal.proofs.Calmly.{calm_on}
@@ -24,6 +25,10 @@ loop-i-preserved g c = record {
       let within : c.u32_at-last.result < length c.loop-i.places = omega (arith, below, c.u32_at-last.ensures, c.loop-i.invariant.size) in
       let fits : c.args.at + 4104 * c.loop-i.i + 8 + 4096 < 2 ^ 64 = omega (arith, c.requires.small, c.loop-i-test.true) in
       low_set c.loop-i.places c.u32_at-last.result (c.args.at + 4104 * c.loop-i.i + 8) within fits c.loop-i.invariant.low;
+  pages =
+      let below = c.in_default-damaged_part.ensures.below refl in
+      let within : c.u32_at-last.result < length c.args.places.now = omega (arith, below, c.u32_at-last.ensures) in
+      subst (All (λ page. page < length c.args.places.now)) (sym c.add.ensures.items) (All-push (λ page. page < length c.args.places.now) _ c.u32_at-last.result c.loop-i.invariant.pages within);
   so_far = λ bytes told.
       let here = c.in-Ok-read.ensures.piece bytes (c.loop-i.invariant.calm.same ∙ told) in
       let fine : part_damage (length c.args.places.now) c.loop-i.last (piece (c.args.at + 4104 * c.loop-i.i) 8 bytes) ≡ None = ap (part_damage (length c.args.places.now) c.loop-i.last) (sym here) ∙ sym c.in_default-damaged_part.ensures.is in

@@ -1,4 +1,4 @@
-use Rattle.std.proofs.Common.{◌≡◌, ◌≤◌, length, vec_len, vec_capacity}
+use Rattle.std.proofs.Common.{All, ◌≡◌, ◌<◌, ◌≤◌, length, vec_len, vec_capacity}
 use Rattle.pm3_disk.specs.Content.{IfTold}
 use Rattle.pm3_journal.specs.Calm.{Calm}
 use Rattle.pm3_journal.specs.Places.{AreLow}
@@ -14,5 +14,6 @@ invariant-loop-i g l = record {
   room : l.count ≤ vec_capacity l.numbers;
   len : vec_len l.numbers ≡ l.i;
   low : AreLow l.places;
+  pages : All (λ page. page < length l.fn.places) l.numbers.items;
   so_far : IfTold (g.D.Disk.content l.fn.disk) (λ bytes. PartsSoFar l.count (length l.fn.places) l.at l.i l.last bytes l.numbers.items l.fn.places l.places);
 }

@@ -11,7 +11,7 @@ invariant_of-result g c =
     (λ is bytes told. c.in-Ok.ensures.closed is bytes (before bytes told))
     (λ is bytes told. c.in-Ok.ensures.unclosed is bytes (before bytes told))
     c.in-Ok.ensures.settled in
-    (keeps, tt, c.in-Ok.ensures.low)
+    (keeps, tt, c.in-Ok.ensures.low, c.in-Ok.ensures.table)
 
 pub returns-clause-list : goal.returns-clause-list
 returns-clause-list g c bytes told = list_found _ _ _ _ _ bytes (c.in-Ok.ensures.list bytes told) (c.in-Ok.ensures.ends bytes told)

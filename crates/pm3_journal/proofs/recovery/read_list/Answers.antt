@@ -28,26 +28,24 @@ returns-in-Err-read_record-clause-damaged g c offset is bytes told =
 pub returns-in-Err-read_record-clause-calm : goal.returns-in-Err-read_record-clause-calm
 returns-in-Err-read_record-clause-calm g c = calm_on (calm_on c.loop-end.invariant.calm c.next_front.ensures.calm) c.read_record.ensures.calm
 
-pub returns-in_default-clause-calm : goal.returns-in_default-clause-calm
-returns-in_default-clause-calm g c = calm_on (calm_on c.loop-end.invariant.calm c.next_front.ensures.calm) c.read_record.ensures.calm
-
 pub loop-end-preserved : goal.loop-end-preserved
 loop-end-preserved g c =
-    let count : c.len.result ≡ length c.in-Ok.head.pages = search rules in
-    let number = c.in-Ok.ensures.number in
+    let count : c.len.result ≡ length c.in-Ok-read_record.head.pages = search rules in
+    let number = c.in-Ok-read_record.ensures.number in
     let fits : c.loop-end.end + 48 + 4104 * number_of c.in-Ok-Some.front ≤ c.args.len = search rules in
-    let seq : c.successor.result ≡ next_seq c.in-Ok.head.seq = search rules in
+    let seq : c.successor.result ≡ next_seq c.in-Ok-read_record.head.seq = search rules in
     record {
-      over = c.in-Ok.ensures.over;
+      over = c.in-Ok-read_record.ensures.over;
       calm = calm_on (calm_on c.loop-end.invariant.calm c.next_front.ensures.calm) c.read_record.ensures.calm;
       size = c.read_record.ensures.size ∙ c.loop-end.invariant.size;
       within = omega (arith, count, fits, number);
       low = c.read_record.ensures.low;
-      first = λ none. absurd (omega (arith, ap length (sym none ∙ c.add.ensures), length_push c.reserve.new.self.heads c.in-Ok.head));
+      pages = c.add.ensures.pages ∙ c.reserve.ensures.pages ∙ c.loop-end.invariant.pages;
+      first = λ none. absurd (omega (arith, ap length (sym none ∙ c.add.ensures.heads), length_push c.reserve.new.self.heads c.in-Ok-read_record.head));
       so_far = λ bytes told.
-          let found = c.in-Ok.ensures.good bytes (c.next_front.ensures.calm.same ∙ (c.loop-end.invariant.calm.same ∙ told)) in
-          let found_here = subst (λ (n : ℕ). HasRecord (record { pages = n; due = c.loop-end.due }) c.loop-end.end bytes c.in-Ok.head c.loop-end.places c.read_record.new.places) c.loop-end.invariant.size found in
-          list_step _ _ _ _ _ bytes (c.loop-end.invariant.so_far bytes told) c.in-Ok.head c.read_record.new.places _ _ _ found_here (ap (λ (n : ℕ). c.loop-end.end + (48 + 4104 * n)) count) (ap Some seq) (c.add.ensures ∙ ap (λ (l : List Head). l ++ c.in-Ok.head ∷ []) c.reserve.ensures.same);
+          let found = c.in-Ok-read_record.ensures.good bytes (c.next_front.ensures.calm.same ∙ (c.loop-end.invariant.calm.same ∙ told)) in
+          let found_here = subst (λ (n : ℕ). HasRecord (record { pages = n; due = c.loop-end.due }) c.loop-end.end bytes c.in-Ok-read_record.head c.loop-end.places c.read_record.new.places) c.loop-end.invariant.size found in
+          list_step _ _ _ _ _ bytes (c.loop-end.invariant.so_far bytes told) c.in-Ok-read_record.head c.read_record.new.places _ _ _ found_here (ap (λ (n : ℕ). c.loop-end.end + (48 + 4104 * n)) count) (ap Some seq) (c.add.ensures.heads ∙ ap (λ (l : List Head). l ++ c.in-Ok-read_record.head ∷ []) c.reserve.ensures.same);
     }
 
 pub returns-clause-ends : goal.returns-clause-ends

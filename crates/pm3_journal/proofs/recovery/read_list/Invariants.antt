@@ -12,6 +12,7 @@ invariant-loop-end g l = record {
   size : length l.places ≡ length l.fn.places;
   within : l.end ≤ l.len;
   low : AreLow l.places;
+  pages : l.entries.pages ≡ length l.fn.places;
   first : l.entries.heads ≡ [] → l.due ≡ None;
   so_far : IfTold (g.D.Disk.content l.fn.disk) (λ bytes. HasList (length l.fn.places) l.end l.due l.entries.heads l.places bytes);
 }

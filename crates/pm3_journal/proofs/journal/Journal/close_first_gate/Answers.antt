@@ -9,7 +9,7 @@ write_through-requires g c =
 pub invariant_of-self : goal.invariant_of-self
 invariant_of-self g c =
     let stops : c.or-self-inside.result ≡ None → ⊥ = λ is. stays_stopped c.self.inside.stopped c.self.inside.next (sym c.or-self-inside.ensures ∙ is) in
-    (keeps_torn _ _ _ _ _ _ _ _ _ _ _ c.self.invariant.0 (rw (← c.self.view_is) at c.requires.some) _ _ _ c.write_through.ensures.crash c.or-self-inside.result stops c.in_default.ensures.torn, c.self.invariant.1, c.self.invariant.2)
+    (keeps_torn _ _ _ _ _ _ _ _ _ _ _ c.self.invariant.0 (rw (← c.self.view_is) at c.requires.some) _ _ _ c.write_through.ensures.crash c.or-self-inside.result stops c.in_default.ensures.torn, c.self.invariant.1, c.self.invariant.2, c.self.invariant.3)
 
 pub returns-in_default-clause-crash : goal.returns-in_default-clause-crash
 returns-in_default-clause-crash g c =
@@ -21,6 +21,7 @@ invariant_of-self-2 g c = (
       _ _ _ c.in-Ok.ensures.written _ _ c.in-Ok.ensures.settled (ap g.D.Disk.moment c.of.ensures) c.clear.ensures.none,
   space_cleared c.self.inside.room _ _ _ _ _ _ c.clear.ensures.none c.clear.ensures.slots c.self.invariant.1,
   c.self.invariant.2,
+  c.clear.ensures.pages ∙ c.self.invariant.3,
 )
 
 pub returns-clause-emptied : goal.returns-clause-emptied
