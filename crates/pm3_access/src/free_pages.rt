@@ -1,3 +1,4 @@
+//! The free pages of a space.
 ghost use Rattle.std.specs.Prelude.{◌≡◌, ◌+◌, ◌<◌, ◌≤◌, ◌==◌, ◌^◌, max, not, length, filter, slice_index, vec_capacity, OnOk, OnErr, IsSome, MatchOption, Contains, EachIndex};
 ghost use Rattle.std.specs.FinSet as set;
 ghost use Rattle.pm3_page.specs.Next.{IsNext};

@@ -1,3 +1,4 @@
+//! The parts of what is held.
 use crate::rest::Rest;
 use pm3_page::Pages;
 

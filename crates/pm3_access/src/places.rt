@@ -1,3 +1,4 @@
+//! The places of an object.
 /// A place of an object.
 #[derive(Clone, Copy, Debug, PartialEq, Eq)]
 pub enum Place {

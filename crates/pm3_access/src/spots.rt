@@ -1,3 +1,4 @@
+//! Where the places of an object lie in its words.
 ghost use Rattle.std.specs.Prelude.{◌≡◌, ◌+◌, ◌<◌, ◌≤◌, IfSome};
 ghost use Rattle.pm3_types.specs.Layout.{tail_words};
 ghost use Rattle.pm3_access.specs.Spots.{spot_by, word_of, IsByteOfWord, byte_of, with_byte};

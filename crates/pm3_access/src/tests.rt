@@ -3,7 +3,7 @@ ghost use Rattle.std.specs.Prelude.{◌≡◌};
 ghost use Rattle.pm3_types.specs.Layout.{blank_sheet};
 
 use super::*;
-use pm3_page::{Addr, BASE, Image};
+use pm3_page::{Addr, BASE, Image, PageNo};
 use pm3_types::{Catalog, Tail, TypeMap, TypeNo};
 use std::alloc::Global;
 use std::test::Fail;
@@ -70,90 +70,116 @@ pub(crate) fn make(
     Ok(held.make(catalog, CHUNK, tail, name))
 }
 
-pub(crate) fn least_free(held: &mut Held) -> Result<Option<u32>, Fail> {
+pub(crate) fn least_free(held: &mut Held) -> Result<Option<PageNo>, Fail> {
     if !held.has_space() {
         return Err(Fail::from("no space is held"));
     }
     Ok(held.least_free())
 }
 
-#[test]
-fn objects_are_placed_on_the_page_that_was_drawn(rt: HostRuntime) -> Result<(), Fail> {
-    let catalog = types(rt.alloc())?;
-    let mut held = holding(rt.alloc(), Space::new(rt.alloc(), 0))?;
-    assert_eq!(rt; make(&mut held, &catalog, 0, 1)?, None);
-    grow(&mut held, Image::blank(rt.alloc(), 3)?)?;
-    assert_eq!(rt;
-        make(&mut held, &catalog, 0, 1)?,
-        Some(BASE + 4096 * 3 + 16)
-    );
-    assert_eq!(rt;
-        make(&mut held, &catalog, 3072, 2)?,
-        Some(BASE + 4096 * 3 + 40)
-    );
-    assert_eq!(rt; make(&mut held, &catalog, 3072, 3)?, None);
-    assert!(rt; held.image(3).is_some());
-    assert!(rt; !held.has(3));
-    Ok(())
+/// What three makes answer, of objects without bytes, with 3072 bytes, and again.
+fn three_makes(held: &mut Held, alloc: Global) -> Result<[Option<Addr>; 3], Fail> {
+    let catalog = types(alloc)?;
+    let first = make(held, &catalog, 0, 1)?;
+    let second = make(held, &catalog, 3072, 2)?;
+    let third = make(held, &catalog, 3072, 3)?;
+    Ok([first, second, third])
+}
+
+/// The same, on page 3, which was drawn.
+fn three_makes_on_page_3(alloc: Global) -> Result<[Option<Addr>; 3], Fail> {
+    let mut held = holding(alloc, Space::new(alloc, 0))?;
+    grow(&mut held, Image::blank(alloc, 3)?)?;
+    three_makes(&mut held, alloc)
+}
+
+/// The same, where no page was drawn.
+fn three_makes_on_none(alloc: Global) -> Result<[Option<Addr>; 3], Fail> {
+    let mut held = holding(alloc, Space::new(alloc, 0))?;
+    three_makes(&mut held, alloc)
 }
 
 #[test]
-fn pages_that_were_drawn_are_free_after_undo(rt: HostRuntime) -> Result<(), Fail> {
-    let mut held = holding(rt.alloc(), Space::new(rt.alloc(), 0))?;
-    grow(&mut held, Image::blank(rt.alloc(), 5)?)?;
-    grow(&mut held, Image::blank(rt.alloc(), 3)?)?;
+fn objects_are_placed_on_the_page_that_was_drawn(rt: HostRuntime) -> Result<(), Fail> {
+    assert_eq!(rt; three_makes_on_none(rt.alloc())?, [None, None, None]);
+    let start = BASE + 4096 * 3;
+    assert_eq!(rt;
+        three_makes_on_page_3(rt.alloc())?,
+        [Some(start + 16), Some(start + 40), None]
+    );
+    Ok(())
+}
+
+/// The first two free pages, and what comes behind them.
+fn three_free(held: &mut Held) -> Result<[Option<PageNo>; 3], Fail> {
+    let first = least_free(held)?;
+    let second = least_free(held)?;
+    let third = least_free(held)?;
+    Ok([first, second, third])
+}
+
+/// A space from which the pages 5 and 3 were drawn, as it is given back.
+fn drawn_and_undone(alloc: Global) -> Result<Space, Fail> {
+    let mut held = holding(alloc, Space::new(alloc, 0))?;
+    grow(&mut held, Image::blank(alloc, 5)?)?;
+    grow(&mut held, Image::blank(alloc, 3)?)?;
+    space_of(held.undo())
+}
+
+/// The space, where no page was given back beside it.
+fn space_of(undone: Undone) -> Result<Space, Fail> {
     let Undone {
         pages,
         written,
         space,
-    } = held.undo();
-    assert!(rt; pages.is_empty());
-    assert!(rt; written.is_empty());
-    let Some(space) = space else {
-        return Err(Fail::from("the space is lost"));
-    };
-    assert!(rt; !space.has(3));
-    let mut held = holding(rt.alloc(), space)?;
-    assert_eq!(rt; least_free(&mut held)?, Some(3));
-    assert_eq!(rt; least_free(&mut held)?, Some(5));
-    assert_eq!(rt; least_free(&mut held)?, None);
-    Ok(())
+    } = undone;
+    if !pages.is_empty() || !written.is_empty() {
+        return Err(Fail::from("a page was held"));
+    }
+    Ok(space.ok_or("the space is lost")?)
+}
+
+/// The free pages of a space.
+fn free_of(alloc: Global, space: Space) -> Result<[Option<PageNo>; 3], Fail> {
+    let mut held = holding(alloc, space)?;
+    three_free(&mut held)
 }
 
 #[test]
-fn a_page_is_given_back_as_it_was_taken(rt: HostRuntime) -> Result<(), Fail> {
-    let mut held = Held::new(rt.alloc());
-    assert!(rt; !held.has_space());
-    assert!(rt; held.image(4).is_none());
-    let image = Image::blank(rt.alloc(), 4)?;
-    if held.image(image.page()).is_some() {
+fn pages_that_were_drawn_are_free_after_undo(rt: HostRuntime) -> Result<(), Fail> {
+    let space = drawn_and_undone(rt.alloc())?;
+    assert!(rt; !space.has(3) && !space.has(5));
+    assert_eq!(rt; free_of(rt.alloc(), space)?, [Some(3), Some(5), None]);
+    Ok(())
+}
+
+/// Holds page 4 alone.
+fn page_4(alloc: Global) -> Result<Held, Fail> {
+    let mut held = Held::new(alloc);
+    let image = Image::blank(alloc, 4)?;
+    if held.has_space() || held.image(image.page()).is_some() {
         return Err(Fail::from("the page is held"));
     }
     if held.admit(image).is_err() {
         return Err(Fail::from("no memory"));
     }
-    assert!(rt; held.has(4));
+    Ok(held)
+}
+
+#[test]
+fn a_page_is_given_back_as_it_was_taken(rt: HostRuntime) -> Result<(), Fail> {
+    let held = page_4(rt.alloc())?;
+    assert!(rt; held.has(4) && !held.has(3));
     let Undone {
         pages,
         written: _,
         space,
     } = held.undo();
-    assert!(rt; pages.get(4).is_some());
-    assert!(rt; space.is_none());
+    assert!(rt; pages.get(4).is_some() && space.is_none());
     Ok(())
 }
 
-#[test]
-fn free_pages_are_taken_in_rising_order(rt: HostRuntime) -> Result<(), Fail> {
-    let mut held = holding(rt.alloc(), Space::new(rt.alloc(), 7))?;
-    add_free(&mut held, 9)?;
-    add_free(&mut held, 4)?;
-    assert_eq!(rt; least_free(&mut held)?, Some(4));
-    assert_eq!(rt; least_free(&mut held)?, Some(9));
-    Ok(())
-}
-
-fn add_free(held: &mut Held, page: u32) -> Result<(), Fail> {
+fn add_free(held: &mut Held, page: PageNo) -> Result<(), Fail> {
     if !held.has_space() {
         return Err(Fail::from("no space is held"));
     }
@@ -161,5 +187,19 @@ fn add_free(held: &mut Held, page: u32) -> Result<(), Fail> {
         return Err(Fail::from("no memory"));
     }
     held.add_free(page);
+    Ok(())
+}
+
+/// The free pages of a space to which 9 and then 4 were added.
+fn added(alloc: Global) -> Result<[Option<PageNo>; 3], Fail> {
+    let mut held = holding(alloc, Space::new(alloc, 7))?;
+    add_free(&mut held, 9)?;
+    add_free(&mut held, 4)?;
+    three_free(&mut held)
+}
+
+#[test]
+fn free_pages_are_taken_in_rising_order(rt: HostRuntime) -> Result<(), Fail> {
+    assert_eq!(rt; added(rt.alloc())?, [Some(4), Some(9), None]);
     Ok(())
 }

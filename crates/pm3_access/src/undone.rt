@@ -1,3 +1,4 @@
+//! What a transaction gives back.
 use crate::spaces::Space;
 use pm3_page::Pages;
 
