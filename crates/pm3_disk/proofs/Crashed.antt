@@ -1,58 +1,58 @@
--- The image that a crash leaves is one of its moment.
+-- What a crash is made to leave is what one at its moment may leave.
 use Rattle.std.proofs.Common.{◌≡◌, inl, inr, ⊎_elim, ℕ, suc, ◌-◌, ◌<◌, ◌≤◌, Bool, true, false, cond, nat_le, List, [], ◌∷◌, ◌++◌, length, take, drop, reverse, replicate, refl, sym, ◌∙◌, ap, subst, arith}
 use Rattle.std.proofs.lemmas.Bool.{cases_lt, leb-true}
 use Rattle.std.proofs.lemmas.Grind.{common_steps}
 use Rattle.std.proofs.lemmas.List.{reverse-append, reverse-reverse, length-replicate, take_at, take-append-drop}
 use Rattle.std.proofs.Math.Seq.{drop-nil}
 use Rattle.pm3_disk.specs.Content.{TornWrite}
-use Rattle.pm3_disk.specs.Crash.{fate_of, meets, image_after, writes_after, oldest}
-use Rattle.pm3_disk.specs.Replay.{IsTorn, IsImage, IsImageAt}
+use Rattle.pm3_disk.specs.Crash.{fate_of, meets, left_after, writes_after, oldest}
+use Rattle.pm3_disk.specs.Replay.{IsTorn, MayLeave, MayLeaveAt}
 use Rattle.pm3_disk.specs.declared.call.Call.{Call}
 use Rattle.pm3_disk.specs.declared.call.Call.TheVariants.{Looked, Wrote, Shortened, Synced}
 use Rattle.pm3_disk.specs.declared.fate.Fate.{Fate}
 use Rattle.pm3_disk.specs.declared.fate.Fate.TheVariants.{Written, Missing, Half, Ones}
 use Rattle.pm3_disk.proofs.Tearing.{torn_by, torn_by_part, torn_not, cut_by}
 
-met_is_torn : (fate : Fate) (at : ℕ) (bytes : List ℕ) (whole : Bool) (image : List ℕ) → at ≤ length image → TornWrite at (length bytes) image (meets fate at bytes whole image)
-met_is_torn Written at bytes whole image within = torn_by_part at bytes whole image within
-met_is_torn Missing at bytes whole image within = torn_not at (length bytes) image
-met_is_torn Half at bytes whole image within = torn_by_part at bytes false image within
-met_is_torn Ones at bytes whole image within =
+met_is_torn : (fate : Fate) (at : ℕ) (bytes : List ℕ) (whole : Bool) (left : List ℕ) → at ≤ length left → TornWrite at (length bytes) left (meets fate at bytes whole left)
+met_is_torn Written at bytes whole left within = torn_by_part at bytes whole left within
+met_is_torn Missing at bytes whole left within = torn_not at (length bytes) left
+met_is_torn Half at bytes whole left within = torn_by_part at bytes false left within
+met_is_torn Ones at bytes whole left within =
     let size : length (replicate (length bytes) 1) ≤ length bytes = omega (arith, length-replicate {A = ℕ} (length bytes) 1) in
-    torn_by at (length bytes) (replicate (length bytes) 1) image within size
+    torn_by at (length bytes) (replicate (length bytes) 1) left within size
 
-left_or_torn : (fate : Fate) (at : ℕ) (bytes : List ℕ) (whole : Bool) (image : List ℕ) (within : Bool) → nat_le at (length image) ≡ within → TornWrite at (length bytes) image (cond within (meets fate at bytes whole image) image)
-left_or_torn fate at bytes whole image true is = met_is_torn fate at bytes whole image (leb-true at (length image) is)
-left_or_torn fate at bytes whole image false is = torn_not at (length bytes) image
+left_or_torn : (fate : Fate) (at : ℕ) (bytes : List ℕ) (whole : Bool) (left : List ℕ) (within : Bool) → nat_le at (length left) ≡ within → TornWrite at (length bytes) left (cond within (meets fate at bytes whole left) left)
+left_or_torn fate at bytes whole left true is = met_is_torn fate at bytes whole left (leb-true at (length left) is)
+left_or_torn fate at bytes whole left false is = torn_not at (length bytes) left
 
-is_torn : (choice : ℕ) (began : List ℕ) (calls : List Call) → IsTorn began calls (image_after choice began calls)
+is_torn : (choice : ℕ) (began : List ℕ) (calls : List Call) → IsTorn began calls (left_after choice began calls)
 is_torn choice began [] = refl
 is_torn choice began (Looked ∷ calls) = is_torn choice began calls
 is_torn choice began (Wrote at bytes whole ∷ calls) =
-    let here = image_after choice began calls in
+    let here = left_after choice began calls in
     (here, is_torn choice began calls, left_or_torn (fate_of choice (writes_after calls)) at bytes whole here (nat_le at (length here)) refl)
 is_torn choice began (Shortened len ∷ calls) =
-    let here = image_after choice began calls in
+    let here = left_after choice began calls in
     (here, is_torn choice began calls, cut_by len here)
 is_torn choice began (Synced ∷ calls) = refl
 
-at_moment : (began : List ℕ) (calls : List Call) (moment : ℕ) (image : List ℕ) → moment ≤ length calls → IsImage began (oldest moment calls) image → IsImageAt began calls moment image
-at_moment began [] moment image few is = subst (λ (l : List Call). IsImage began l image) (drop-nil (0 - moment)) is
-at_moment began (call ∷ calls) moment image few is = ⊎_elim newest (older (at_moment began calls moment image)) (cases_lt (length calls) moment)
+at_moment : (began : List ℕ) (calls : List Call) (moment : ℕ) (left : List ℕ) → moment ≤ length calls → MayLeave began (oldest moment calls) left → MayLeaveAt began calls moment left
+at_moment began [] moment left few is = subst (λ (l : List Call). MayLeave began l left) (drop-nil (0 - moment)) is
+at_moment began (call ∷ calls) moment left few is = ⊎_elim newest (older (at_moment began calls moment left)) (cases_lt (length calls) moment)
   where
-    newest : length calls < moment → IsImageAt began (call ∷ calls) moment image
+    newest : length calls < moment → MayLeaveAt began (call ∷ calls) moment left
     newest lt =
         let none : length (call ∷ calls) - moment ≡ 0 = omega (arith, lt) in
-        inr (lt, subst (λ (n : ℕ). IsImage began (drop n (call ∷ calls)) image) none is)
+        inr (lt, subst (λ (n : ℕ). MayLeave began (drop n (call ∷ calls)) left) none is)
 
-    older : (moment ≤ length calls → IsImage began (oldest moment calls) image → IsImageAt began calls moment image) → moment ≤ length calls → IsImageAt began (call ∷ calls) moment image
+    older : (moment ≤ length calls → MayLeave began (oldest moment calls) left → MayLeaveAt began calls moment left) → moment ≤ length calls → MayLeaveAt began (call ∷ calls) moment left
     older before le =
         let more : length (call ∷ calls) - moment ≡ suc (length calls - moment) = omega (arith, le) in
-        inl (le, before le (subst (λ (n : ℕ). IsImage began (drop n (call ∷ calls)) image) more is))
+        inl (le, before le (subst (λ (n : ℕ). MayLeave began (drop n (call ∷ calls)) left) more is))
 
 -- a crash after the first so many calls
-pub is_image : (choice : ℕ) (began : List ℕ) (calls : List Call) (moment : ℕ) → moment ≤ length calls → IsImageAt began calls moment (image_after choice began (oldest moment calls))
-is_image choice began calls moment few = at_moment began calls moment (image_after choice began (oldest moment calls)) few (inr (is_torn choice began (oldest moment calls)))
+pub is_left : (choice : ℕ) (began : List ℕ) (calls : List Call) (moment : ℕ) → moment ≤ length calls → MayLeaveAt began calls moment (left_after choice began (oldest moment calls))
+is_left choice began calls moment few = at_moment began calls moment (left_after choice began (oldest moment calls)) few (inr (is_torn choice began (oldest moment calls)))
 
 -- the first so many calls, in both orders
 pub reverse_oldest : (count : ℕ) (calls : List Call) → count ≤ length calls → reverse (take count (reverse calls)) ≡ oldest count calls

@@ -22,7 +22,7 @@ pub record Taking : Type 0 where
 -- and fails, and where it wants memory it takes nothing, fails and has no number.
 abbrev pub IsTaken : {E : Type 0} → List ℕ → Taking → Taking → Result ℕ E → Type 0
 IsTaken piece old new (Ok count) =
-    (Contains old.plan.fails old.plan.next → ⊥) × (count ≡ length piece) × (new ≡ record { taken = old.taken ++ piece; plan = passed old.plan; wanted = old.wanted })
+    (Contains old.plan.fails old.plan.next → ⊥) × (count ≡ length piece) × (new ≡ record old { taken = old.taken ++ piece; plan = passed old.plan })
 IsTaken piece old new (Err _) =
-    (Contains old.plan.fails old.plan.next × (new ≡ record { taken = old.taken ++ take (length piece / 2) piece; plan = failed old.plan; wanted = old.wanted }))
-    ⊎ (new ≡ record { taken = old.taken; plan = blamed old.plan; wanted = raised_32 old.wanted })
+    (Contains old.plan.fails old.plan.next × (new ≡ record old { taken = old.taken ++ take (length piece / 2) piece; plan = failed old.plan }))
+    ⊎ (new ≡ record old { plan = blamed old.plan; wanted = raised_32 old.wanted })

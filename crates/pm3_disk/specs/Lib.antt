@@ -1,5 +1,6 @@
 pub mod Content
 pub mod Crash
+pub mod Devices
 pub mod Fakes
 pub mod Faults
 pub mod Media

@@ -17,15 +17,15 @@ pub record Plan : Type 0 where
 
 -- a call was made, and didn't fail
 abbrev pub passed : Plan → Plan
-passed plan = record { fails = plan.fails; next = raised plan.next; faults = plan.faults }
+passed plan = record plan { next = raised plan.next }
 
 -- a call was made, and failed
 abbrev pub failed : Plan → Plan
-failed plan = record { fails = plan.fails; next = raised plan.next; faults = raised plan.faults }
+failed plan = record plan { next = raised plan.next; faults = raised plan.faults }
 
 -- a call failed for want of memory, and took no number
 abbrev pub blamed : Plan → Plan
-blamed plan = record { fails = plan.fails; next = plan.next; faults = raised plan.faults }
+blamed plan = record plan { faults = raised plan.faults }
 
 -- a call failed exactly where its number is in the list
 abbrev pub GoesBy : {T E : Type 0} → Plan → Plan → Result T E → Type 0

@@ -1,7 +1,7 @@
 -- What clauses see of a disk in memory: the bytes that it began with, and its record of calls.
 use Rattle.std.specs.Prelude.{◌≡◌, ◌⊎◌, ℕ, List, ◌∷◌, length, Contains, Option, Some, Result, Ok, Err}
 use Rattle.pm3_disk.specs.Plan.{raised, raised_32}
-use Rattle.pm3_disk.specs.Replay.{content_after, IsImageAt}
+use Rattle.pm3_disk.specs.Replay.{content_after, MayLeaveAt}
 use Rattle.pm3_disk.specs.declared.call.Call.{Call}
 
 pub record Recording : Type 0 where
@@ -17,20 +17,20 @@ content_of disk = Some (content_after disk.began disk.calls)
 abbrev pub moment_of : Recording → ℕ
 moment_of disk = length disk.calls
 
-abbrev pub images_of : Recording → ℕ → List ℕ → Type 0
-images_of disk = IsImageAt disk.began disk.calls
+abbrev pub may_leave_of : Recording → ℕ → List ℕ → Type 0
+may_leave_of disk = MayLeaveAt disk.began disk.calls
 
 -- the disk after a call that succeeded and is recorded as `call`
 abbrev pub done : Call → Recording → Recording
-done call disk = record { began = disk.began; calls = call ∷ disk.calls; fails = disk.fails; faults = disk.faults; wanted = disk.wanted }
+done call disk = record disk { calls = call ∷ disk.calls }
 
 -- after one that failed
 abbrev pub spoilt : Call → Recording → Recording
-spoilt call disk = record { began = disk.began; calls = call ∷ disk.calls; fails = disk.fails; faults = raised disk.faults; wanted = disk.wanted }
+spoilt call disk = record disk { calls = call ∷ disk.calls; faults = raised disk.faults }
 
 -- after one that wanted memory, which has no number and no place in the record
 abbrev pub starved : Recording → Recording
-starved disk = record { began = disk.began; calls = disk.calls; fails = disk.fails; faults = raised disk.faults; wanted = raised_32 disk.wanted }
+starved disk = record disk { faults = raised disk.faults; wanted = raised_32 disk.wanted }
 
 -- A call is recorded as the first of these where it succeeds, and as the second where it fails. It fails exactly
 -- where its number is in the list, or where it wants memory.

@@ -24,18 +24,18 @@ content_after began (call ∷ calls) = content_step call (content_after began ca
 
 -- a crash after which each write and cut since the last sync may be torn leaves this
 abbrev pub IsTorn : List ℕ → List Call → List ℕ → Type 0
-IsTorn began [] image = image ≡ began
-IsTorn began (Looked ∷ calls) image = IsTorn began calls image
-IsTorn began (Wrote at bytes whole ∷ calls) image = (earlier : List ℕ) × IsTorn began calls earlier × TornWrite at (length bytes) earlier image
-IsTorn began (Shortened len ∷ calls) image = (earlier : List ℕ) × IsTorn began calls earlier × TornCut len earlier image
-IsTorn began (Synced ∷ calls) image = image ≡ content_after began calls
+IsTorn began [] left = left ≡ began
+IsTorn began (Looked ∷ calls) left = IsTorn began calls left
+IsTorn began (Wrote at bytes whole ∷ calls) left = (earlier : List ℕ) × IsTorn began calls earlier × TornWrite at (length bytes) earlier left
+IsTorn began (Shortened len ∷ calls) left = (earlier : List ℕ) × IsTorn began calls earlier × TornCut len earlier left
+IsTorn began (Synced ∷ calls) left = left ≡ content_after began calls
 
 -- a crash after these calls leaves this: all that was written, or what is torn
-abbrev pub IsImage : List ℕ → List Call → List ℕ → Type 0
-IsImage began calls image = (image ≡ content_after began calls) ⊎ IsTorn began calls image
+abbrev pub MayLeave : List ℕ → List Call → List ℕ → Type 0
+MayLeave began calls left = (left ≡ content_after began calls) ⊎ IsTorn began calls left
 
 -- a crash at a moment, the number of calls that were made by then, leaves this
-abbrev pub IsImageAt : List ℕ → List Call → ℕ → List ℕ → Type 0
-IsImageAt began [] moment image = IsImage began [] image
-IsImageAt began (call ∷ calls) moment image =
-    ((moment ≤ length calls) × IsImageAt began calls moment image) ⊎ ((length calls < moment) × IsImage began (call ∷ calls) image)
+abbrev pub MayLeaveAt : List ℕ → List Call → ℕ → List ℕ → Type 0
+MayLeaveAt began [] moment left = MayLeave began [] left
+MayLeaveAt began (call ∷ calls) moment left =
+    ((moment ≤ length calls) × MayLeaveAt began calls moment left) ⊎ ((length calls < moment) × MayLeave began (call ∷ calls) left)

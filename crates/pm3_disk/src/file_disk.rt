@@ -36,7 +36,7 @@ impl<R: Files + Clone + Drop> Disk for FileDisk<R> {
 
     ghost moment = { λ _. 0 };
 
-    ghost images = { λ _ _ _. ⊥ };
+    ghost may_leave = { λ _ _ _. ⊥ };
 
     fn len(&mut self) -> Result<u64, Failed> {
         let answer = self.link.len();
@@ -75,5 +75,5 @@ impl<R: Files + Clone + Drop> Disk for FileDisk<R> {
         self.faults = self.faults.saturating_add(reader.faults());
     }
 
-    ghost reads_an_image = { λ disk bytes told. Prim.cc told };
+    ghost leaves_what_it_reads = { λ disk bytes told. Prim.cc told };
 }

@@ -2,7 +2,7 @@
 //!
 //! A layer above may rely on three things. A call fails only where its device's count of faults rose in that
 //! call. Where a device tells its content, each call's effect on it is said exactly. And at each moment of a
-//! disk a crash leaves one of that moment's images, of which each call says how they come from the ones before.
+//! disk it is said what a crash may leave, and each call says how that comes from what could be left before.
 #![tactic(auto)]
 
 // The four traits, and a write that a crash can't undo.

@@ -1,19 +1,19 @@
 //! A disk in memory that records its calls.
 ghost use Rattle.std.specs.Prelude.{◌≡◌, ◌+◌, ◌-◌, ◌^◌, ◌<◌, ◌≤◌, ◌↔◌, [], ◌∷◌, length, take, min, true, false, Some, option_map, IsTrue, Contains, IfOk, OnOk, OnErr};
 ghost use Rattle.pm3_disk.specs.Content.{IfTold, IsRead, overwrite, Steps, TornCut, TornWrite, Unchanged};
-ghost use Rattle.pm3_disk.specs.Crash.{image_after, oldest};
+ghost use Rattle.pm3_disk.specs.Crash.{left_after, oldest};
 ghost use Rattle.pm3_disk.specs.Faults.{HasCause, Rose};
 ghost use Rattle.pm3_disk.specs.Moments.{After, IsSettled, Passes};
 ghost use Rattle.pm3_disk.specs.Plan.{raised};
-ghost use Rattle.pm3_disk.specs.Recording.{content_of, moment_of, images_of, done, starved, IsRecorded};
+ghost use Rattle.pm3_disk.specs.Recording.{content_of, moment_of, may_leave_of, done, starved, IsRecorded};
 ghost use Rattle.pm3_disk.specs.Replay.{content_after};
-ghost use Rattle.pm3_disk.specs.Reading.{reads_an_image};
+ghost use Rattle.pm3_disk.specs.Reading.{leaves_what_it_reads};
 
 use crate::Memory;
 use crate::bytes::Bytes;
 use crate::call::Call;
 use crate::copies::{copy_out, is_listed, part_of};
-use crate::crash::image_of;
+use crate::crash::left_by;
 use crate::history::History;
 use crate::medium::Medium;
 use crate::memory_reader::MemoryReader;
@@ -84,18 +84,18 @@ impl MemoryDisk {
         self.wanted
     }
 
-    /// A disk with the image that a crash in the call of this number leaves, and no call. Each write since the last
+    /// A disk with the bytes that a crash in the call of this number leaves, and no call. Each write since the last
     /// sync that succeeded has two bits of `choice`, the first the lowest and after 32 writes the same again: 0 is
     /// written, 1 not written, 2 the first half, 3 every byte 1. A write past the end of what the earlier ones
     /// left is left out, and a cut is done. `call` is below the number of calls.
     pub fn crash(&self, call: u32, choice: u64) -> Result<MemoryDisk, Memory>
         requires { call < length self.now.calls }
-        ensures image { IfOk result (λ disk. images_of self.now (call + 1) disk.began) }
-        ensures which { IfOk result (λ disk. disk ≡ record { began = image_after choice self.now.began (oldest (call + 1) self.now.calls); calls = []; fails = []; faults = 0; wanted = 0 }) }
+        ensures left { IfOk result (λ disk. may_leave_of self.now (call + 1) disk.began) }
+        ensures which { IfOk result (λ disk. disk ≡ record { began = left_after choice self.now.began (oldest (call + 1) self.now.calls); calls = []; fails = []; faults = 0; wanted = 0 }) }
     {
         let calls = self.history.up_to(call);
-        let image = image_of(self.alloc, self.medium.began(), calls, choice)?;
-        Ok(MemoryDisk::new(self.alloc, image, Vec::new(self.alloc)))
+        let left = left_by(self.alloc, self.medium.began(), calls, choice)?;
+        Ok(MemoryDisk::new(self.alloc, left, Vec::new(self.alloc)))
     }
 
     fn fails_next(&self) -> bool
@@ -251,12 +251,12 @@ impl Disk for MemoryDisk {
 
     ghost moment = { moment_of };
 
-    ghost images = { images_of };
+    ghost may_leave = { may_leave_of };
 
     fn len(&mut self) -> Result<u64, Failed>
         ensures len { IfOk result (λ len. IfTold (content_of self.old) (λ bytes. len ≡ length bytes)) }
         ensures same { content_of self.new ≡ content_of self.old }
-        ensures crash { Passes (moment_of self.old) (moment_of self.new) (images_of self.old) (images_of self.new) (After (images_of self.old (moment_of self.old)) Unchanged) }
+        ensures crash { Passes (moment_of self.old) (moment_of self.new) (may_leave_of self.old) (may_leave_of self.new) (After (may_leave_of self.old (moment_of self.old)) Unchanged) }
         ensures cause { HasCause self.old.faults self.new.faults result }
         ensures call { IsRecorded Call.Looked Call.Looked self.old self.new result }
     {
@@ -270,7 +270,7 @@ impl Disk for MemoryDisk {
         ensures bound { IfOk result (λ count. count ≤ length out.new) }
         ensures bytes { IfOk result (λ count. IfTold (content_of self.old) (λ bytes. IsRead bytes at count out.new)) }
         ensures same { content_of self.new ≡ content_of self.old }
-        ensures crash { Passes (moment_of self.old) (moment_of self.new) (images_of self.old) (images_of self.new) (After (images_of self.old (moment_of self.old)) Unchanged) }
+        ensures crash { Passes (moment_of self.old) (moment_of self.new) (may_leave_of self.old) (may_leave_of self.new) (After (may_leave_of self.old (moment_of self.old)) Unchanged) }
         ensures cause { HasCause self.old.faults self.new.faults result }
         ensures call { IsRecorded Call.Looked Call.Looked self.old self.new result }
     {
@@ -284,7 +284,7 @@ impl Disk for MemoryDisk {
         requires { IfTold (content_of self.old) (λ old. at ≤ length old) }
         ensures written { OnOk result (content_of self.new ≡ option_map (overwrite at bytes.now) (content_of self.old)) }
         ensures torn { OnErr result (Steps (TornWrite at (length bytes.now)) (content_of self.old) (content_of self.new)) }
-        ensures crash { Passes (moment_of self.old) (moment_of self.new) (images_of self.old) (images_of self.new) (After (images_of self.old (moment_of self.old)) (TornWrite at (length bytes.now))) }
+        ensures crash { Passes (moment_of self.old) (moment_of self.new) (may_leave_of self.old) (may_leave_of self.new) (After (may_leave_of self.old (moment_of self.old)) (TornWrite at (length bytes.now))) }
         ensures cause { HasCause self.old.faults self.new.faults result }
         ensures call { IsRecorded (Call.Wrote at bytes.now true) (Call.Wrote at bytes.now false) self.old self.new result }
     {
@@ -294,7 +294,7 @@ impl Disk for MemoryDisk {
     fn cut(&mut self, len: u64) -> Result<(), Failed>
         ensures cut { OnOk result (content_of self.new ≡ option_map (take len) (content_of self.old)) }
         ensures torn { OnErr result (Steps (TornCut len) (content_of self.old) (content_of self.new)) }
-        ensures crash { Passes (moment_of self.old) (moment_of self.new) (images_of self.old) (images_of self.new) (After (images_of self.old (moment_of self.old)) (TornCut len)) }
+        ensures crash { Passes (moment_of self.old) (moment_of self.new) (may_leave_of self.old) (may_leave_of self.new) (After (may_leave_of self.old (moment_of self.old)) (TornCut len)) }
         ensures cause { HasCause self.old.faults self.new.faults result }
         ensures call { IsRecorded (Call.Shortened len) Call.Looked self.old self.new result }
     {
@@ -302,9 +302,9 @@ impl Disk for MemoryDisk {
     }
 
     fn sync(&mut self) -> Result<(), Failed>
-        ensures settled { OnOk result (IsSettled (content_of self.new) (images_of self.new (moment_of self.new))) }
+        ensures settled { OnOk result (IsSettled (content_of self.new) (may_leave_of self.new (moment_of self.new))) }
         ensures same { content_of self.new ≡ content_of self.old }
-        ensures crash { Passes (moment_of self.old) (moment_of self.new) (images_of self.old) (images_of self.new) (After (images_of self.old (moment_of self.old)) Unchanged) }
+        ensures crash { Passes (moment_of self.old) (moment_of self.new) (may_leave_of self.old) (may_leave_of self.new) (After (may_leave_of self.old (moment_of self.old)) Unchanged) }
         ensures cause { HasCause self.old.faults self.new.faults result }
         ensures call { IsRecorded Call.Synced Call.Looked self.old self.new result }
     {
@@ -315,7 +315,7 @@ impl Disk for MemoryDisk {
         ensures reader { IfOk result (λ reader. Some reader.content ≡ content_of self.old) }
         ensures fresh { IfOk result (λ reader. reader.plan.faults ≡ 0) }
         ensures same { content_of self.new ≡ content_of self.old }
-        ensures crash { Passes (moment_of self.old) (moment_of self.new) (images_of self.old) (images_of self.new) (After (images_of self.old (moment_of self.old)) Unchanged) }
+        ensures crash { Passes (moment_of self.old) (moment_of self.new) (may_leave_of self.old) (may_leave_of self.new) (After (may_leave_of self.old (moment_of self.old)) Unchanged) }
         ensures cause { HasCause self.old.faults self.new.faults result }
         ensures call { IsRecorded Call.Looked Call.Looked self.old self.new result }
         ensures numbers { IfOk result (λ reader. reader.plan ≡ record { fails = self.old.fails; next = length self.old.calls + 1; faults = 0 }) }
@@ -325,7 +325,7 @@ impl Disk for MemoryDisk {
 
     fn absorb(&mut self, reader: MemoryReader)
         ensures same { content_of self.new ≡ content_of self.old }
-        ensures crash { Passes (moment_of self.old) (moment_of self.new) (images_of self.old) (images_of self.new) (After (images_of self.old (moment_of self.old)) Unchanged) }
+        ensures crash { Passes (moment_of self.old) (moment_of self.new) (may_leave_of self.old) (may_leave_of self.new) (After (may_leave_of self.old (moment_of self.old)) Unchanged) }
         ensures later { self.old.faults ≤ self.new.faults }
         ensures rose { 0 < reader.plan.faults → Rose self.old.faults self.new.faults }
         ensures counted { self.new ≡ record self.old { faults = min (self.old.faults + reader.plan.faults) (2 ^ 64 - 1) } }
@@ -333,5 +333,5 @@ impl Disk for MemoryDisk {
         self.faults = self.faults.saturating_add(reader.faults());
     }
 
-    ghost reads_an_image = { reads_an_image };
+    ghost leaves_what_it_reads = { leaves_what_it_reads };
 }

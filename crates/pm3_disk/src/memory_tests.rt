@@ -23,10 +23,10 @@ fn write_last(rt: &impl Abort, disk: &mut MemoryDisk, at: u64, bytes: &[u8]) -> 
     write_through(disk, at, bytes).is_ok()
 }
 
-fn image_is(rt: &impl Abort, disk: &MemoryDisk, call: u32, choice: u64, image: &str) -> bool {
+fn leaves(rt: &impl Abort, disk: &MemoryDisk, call: u32, choice: u64, left: &str) -> bool {
     assert!(rt; call < disk.calls());
     match disk.crash(call, choice) {
-        Ok(crashed) => crashed.bytes() == image.as_bytes() && crashed.calls() == 0,
+        Ok(crashed) => crashed.bytes() == left.as_bytes() && crashed.calls() == 0,
         Err(Memory) => false,
     }
 }
@@ -74,7 +74,7 @@ fn a_crash_leaves_the_chosen_image(rt: HostRuntime) -> Result<(), Fail> {
     assert!(rt; write_last(&rt, &mut disk, 2, b"cd"));
     assert!(rt; write(&rt, &mut disk, 2, b"WXYZ"));
     assert!(rt; write(&rt, &mut disk, 6, b"!?"));
-    for (call, choice, image) in [
+    for (call, choice, left) in [
         (0, 0b01, "ab"),
         (1, 0b01, "abcd"),
         (2, 0b00, "abWXYZ"),
@@ -87,7 +87,7 @@ fn a_crash_leaves_the_chosen_image(rt: HostRuntime) -> Result<(), Fail> {
         (3, 0b0110, "abWX"),
     ] {
         assert!(rt;
-            image_is(&rt, &disk, call, choice, image),
+            leaves(&rt, &disk, call, choice, left),
             "crash in {call} at {choice}"
         );
     }

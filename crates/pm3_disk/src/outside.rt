@@ -38,14 +38,14 @@ pub trait Disk {
     /// The present moment. It never falls, and the moments of a call are those after the one at its entry.
     ghost moment: { Self → ℕ };
 
-    /// The images that a crash at a moment may leave.
-    ghost images: { Self → ℕ → List ℕ → Type 0 };
+    /// What bytes a crash at a moment may leave.
+    ghost may_leave: { Self → ℕ → List ℕ → Type 0 };
 
     /// How many bytes there are.
     fn len(&mut self) -> Result<u64, Failed>
         ensures len { IfOk result (λ len. IfTold (content self.old) (λ bytes. len ≡ length bytes)) }
         ensures same { content self.new ≡ content self.old }
-        ensures crash { Passes (moment self.old) (moment self.new) (images self.old) (images self.new) (After (images self.old (moment self.old)) Unchanged) }
+        ensures crash { Passes (moment self.old) (moment self.new) (may_leave self.old) (may_leave self.new) (After (may_leave self.old (moment self.old)) Unchanged) }
         ensures cause { HasCause (faults self.old) (faults self.new) result };
 
     /// Reads as many bytes as there are from offset `at` on, at most `out.len()`, into the front of `out`, and
@@ -54,7 +54,7 @@ pub trait Disk {
         ensures bound { IfOk result (λ count. count ≤ length out.new) }
         ensures bytes { IfOk result (λ count. IfTold (content self.old) (λ bytes. IsRead bytes at count out.new)) }
         ensures same { content self.new ≡ content self.old }
-        ensures crash { Passes (moment self.old) (moment self.new) (images self.old) (images self.new) (After (images self.old (moment self.old)) Unchanged) }
+        ensures crash { Passes (moment self.old) (moment self.new) (may_leave self.old) (may_leave self.new) (After (may_leave self.old (moment self.old)) Unchanged) }
         ensures cause { HasCause (faults self.old) (faults self.new) result };
 
     /// Writes bytes from offset `at` on, over what is there and past the end. Until the next sync that succeeds
@@ -63,21 +63,21 @@ pub trait Disk {
         requires { IfTold (content self.old) (λ old. at ≤ length old) }
         ensures written { OnOk result (content self.new ≡ option_map (overwrite at bytes.now) (content self.old)) }
         ensures torn { OnErr result (Steps (TornWrite at (length bytes.now)) (content self.old) (content self.new)) }
-        ensures crash { Passes (moment self.old) (moment self.new) (images self.old) (images self.new) (After (images self.old (moment self.old)) (TornWrite at (length bytes.now))) }
+        ensures crash { Passes (moment self.old) (moment self.new) (may_leave self.old) (may_leave self.new) (After (may_leave self.old (moment self.old)) (TornWrite at (length bytes.now))) }
         ensures cause { HasCause (faults self.old) (faults self.new) result };
 
     /// Leaves the first `len` bytes, or all where there are no more.
     fn cut(&mut self, len: u64) -> Result<(), Failed>
         ensures cut { OnOk result (content self.new ≡ option_map (take len) (content self.old)) }
         ensures torn { OnErr result (Steps (TornCut len) (content self.old) (content self.new)) }
-        ensures crash { Passes (moment self.old) (moment self.new) (images self.old) (images self.new) (After (images self.old (moment self.old)) (TornCut len)) }
+        ensures crash { Passes (moment self.old) (moment self.new) (may_leave self.old) (may_leave self.new) (After (may_leave self.old (moment self.old)) (TornCut len)) }
         ensures cause { HasCause (faults self.old) (faults self.new) result };
 
     /// Makes what was written last: after it a crash leaves what a read gives.
     fn sync(&mut self) -> Result<(), Failed>
-        ensures settled { OnOk result (IsSettled (content self.new) (images self.new (moment self.new))) }
+        ensures settled { OnOk result (IsSettled (content self.new) (may_leave self.new (moment self.new))) }
         ensures same { content self.new ≡ content self.old }
-        ensures crash { Passes (moment self.old) (moment self.new) (images self.old) (images self.new) (After (images self.old (moment self.old)) Unchanged) }
+        ensures crash { Passes (moment self.old) (moment self.new) (may_leave self.old) (may_leave self.new) (After (may_leave self.old (moment self.old)) Unchanged) }
         ensures cause { HasCause (faults self.old) (faults self.new) result };
 
     /// A reader of the bytes as they are now.
@@ -85,18 +85,19 @@ pub trait Disk {
         ensures reader { IfOk result (λ reader. Self.Reader.content reader ≡ content self.old) }
         ensures fresh { IfOk result (λ reader. Self.Reader.faults reader ≡ 0) }
         ensures same { content self.new ≡ content self.old }
-        ensures crash { Passes (moment self.old) (moment self.new) (images self.old) (images self.new) (After (images self.old (moment self.old)) Unchanged) }
+        ensures crash { Passes (moment self.old) (moment self.new) (may_leave self.old) (may_leave self.new) (After (may_leave self.old (moment self.old)) Unchanged) }
         ensures cause { HasCause (faults self.old) (faults self.new) result };
 
     /// Takes a reader back, and counts its faults.
     fn absorb(&mut self, reader: Self::Reader)
         ensures same { content self.new ≡ content self.old }
-        ensures crash { Passes (moment self.old) (moment self.new) (images self.old) (images self.new) (After (images self.old (moment self.old)) Unchanged) }
+        ensures crash { Passes (moment self.old) (moment self.new) (may_leave self.old) (may_leave self.new) (After (may_leave self.old (moment self.old)) Unchanged) }
         ensures later { faults self.old ≤ faults self.new }
+        ensures calm { Self.Reader.faults reader ≡ 0 → faults self.new ≡ faults self.old }
         ensures rose { 0 < Self.Reader.faults reader → Rose (faults self.old) (faults self.new) };
 
-    /// A disk as it reads is one of its images.
-    ghost reads_an_image: { (disk : Self) (bytes : List ℕ) → content disk ≡ Some bytes → images disk (moment disk) bytes };
+    /// A crash may leave a disk as it reads.
+    ghost leaves_what_it_reads: { (disk : Self) (bytes : List ℕ) → content disk ≡ Some bytes → may_leave disk (moment disk) bytes };
 }
 
 /// Bytes that are read once, in order.
@@ -133,5 +134,7 @@ pub trait Sink {
         ensures bytes { IfOk result (λ count. taken self.new ≡ option_map (λ old. old ++ take count bytes.now) (taken self.old)) }
         ensures none { IfOk result (λ count. count ≡ 0 → 0 < length bytes.now → Rose (faults self.old) (faults self.new)) }
         ensures part { OnErr result ((count : ℕ) × (count ≤ length bytes.now) × (taken self.new ≡ option_map (λ old. old ++ take count bytes.now) (taken self.old))) }
-        ensures cause { HasCause (faults self.old) (faults self.new) result };
+        ensures later { faults self.old ≤ faults self.new }
+        ensures calm { IfOk result (λ count. (count ≡ 0 → length bytes.now ≡ 0) → faults self.new ≡ faults self.old) }
+        ensures failed { OnErr result (Rose (faults self.old) (faults self.new)) };
 }
