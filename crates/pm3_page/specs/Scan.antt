@@ -1,8 +1,8 @@
 -- A page word by word: in a file or in memory, with the words in the other form.
 use Rattle.std.specs.Prelude.{ℕ, ◌+◌, ◌==◌, ◌&&◌, not, Bool, true, false, cond, nat_le, List, [], ◌∷◌, ◌++◌, Option, Some, None, Result, Ok, Err, slice_get}
-use Rattle.std.specs.List.{list_all}
 use Rattle.pm3_types.specs.Fields.{Fields}
 use Rattle.pm3_types.specs.Layout.{Sheet, blank_sheet, type_in, tail_in, size_by, used_in}
+use Rattle.pm3_types.specs.Bytes.{is_zero}
 use Rattle.pm3_types.specs.PageForm.{is_page_head, is_head_of, is_name, is_padded}
 use Rattle.pm3_types.specs.declared.type_map.Tail.TheVariants.{Empty}
 use Rattle.pm3_page.specs.declared.roles.Reading.{Reading}
@@ -77,7 +77,7 @@ scan catalog refer page (word ∷ words) r i =
 
 -- every word is 0
 abbrev pub is_blank : List ℕ → Bool
-is_blank words = list_all (λ word. word == 0) words
+is_blank words = is_zero words
 
 -- a whole page: a page of zeros has no object, except page 2
 abbrev pub pass : List Fields → (ℕ → Option ℕ) → ℕ → List ℕ → Read

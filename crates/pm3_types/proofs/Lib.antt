@@ -1,3 +1,4 @@
+pub mod ZeroBytes
 mod Padding
 pub mod TypeMaps
 pub mod Reading

@@ -10,13 +10,11 @@ use Rattle.pm3_types.specs.declared.type_map.Tail.{Tail}
 use Rattle.pm3_types.specs.declared.type_map.Tail.TheVariants.{Empty, Refs, Bytes}
 use Rattle.pm3_types.specs.Fields.{Fields, IsTypeMap, tail_code}
 use Rattle.pm3_types.specs.PageOne.{zeros, padded, catalog_head, catalog_page, map_bytes, maps_bytes}
-use Rattle.pm3_types.specs.CatalogForm.{is_zero, unless, map_departure, maps_departure, departure}
+use Rattle.pm3_types.specs.CatalogForm.{map_departure, maps_departure, departure}
+use Rattle.pm3_types.specs.Bytes.{number_at, unless}
 use Rattle.pm3_types.specs.PageLaws.{AreTypeMaps, PageHasForm, OneCatalog}
+use Rattle.pm3_types.proofs.ZeroBytes.{is_zero-replicate}
 use Rattle.pm3_types.proofs.Reading.{padded-behind}
-
-is_zero-replicate : (n : ℕ) → is_zero (replicate n 0) ≡ true
-is_zero-replicate zero = refl
-is_zero-replicate (suc n) = is_zero-replicate n
 
 at_most : (m n : ℕ) → m ≤ n → nat_le m n ≡ true
 at_most m n is = grind (arith, nat_tests)
@@ -47,6 +45,7 @@ mask_of : (map : Fields) → IsTypeMap map.count map.refs → from_le_bytes w32 
 mask_of map is = from_le_bytes-to_le_bytes_4 map.refs (mask_fits map.count map.refs is)
 
 map_has_form : (at : ℕ) (map : Fields) → IsTypeMap map.count map.refs → map_departure at (map_bytes map) ≡ None
+unfolding number_at
 map_has_form at map is =
     neither _ _ (unless_true _ at (at_most map.count 32 is.0))
     (neither _ _ (unless_true _ (at + 1) (tail_known map.tail))
@@ -65,6 +64,7 @@ number_of_head : (n : ℕ) → n ≤ 256 → from_le_bytes w32 (to_le_bytes w32 
 number_of_head n few = from_le_bytes-to_le_bytes_4 n (omega arith)
 
 pub page_has_form : PageHasForm
+unfolding number_at
 page_has_form maps is =
     ap departure (page_parts maps)
     ∙ neither _ _

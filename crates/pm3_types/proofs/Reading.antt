@@ -1,31 +1,16 @@
 -- Bytes of page 1 that do not depart from the form are those that are written.
 use Rattle.std.proofs.Common.{◌≡◌, ◌≤◌, ◌<◌, ◌+◌, ◌-◌, ◌*◌, ℕ, suc, List, [], ◌∷◌, ◌++◌, length, take, drop, replicate, Bool, true, false, Option, None, Some, refl, sym, arith, ap, ◌∙◌, append_assoc, length-append}
 use Rattle.std.proofs.lemmas.List.{take-append-drop, length-drop}
-use Rattle.std.proofs.lemmas.Bool.Decides.{nat_tests}
-use Rattle.std.specs.Prelude.{◌==◌, ◌&&◌}
 use Rattle.std.specs.Int.{w32, to_le_bytes}
 use Rattle.std.specs.Option.{option_or}
 use Rattle.pm3_types.specs.Fields.{Fields}
+use Rattle.pm3_types.specs.Bytes.{is_zero}
 use Rattle.pm3_types.specs.PageOne.{zeros, padded, catalog_head, catalog_page, map_bytes, maps_bytes}
-use Rattle.pm3_types.specs.CatalogForm.{is_zero, map_departure, maps_departure, IsCauseOf}
+use Rattle.pm3_types.specs.CatalogForm.{map_departure, maps_departure, IsCauseOf}
 use Rattle.pm3_types.specs.declared.catalogs.CatalogFault.{CatalogFault}
 use Rattle.pm3_types.specs.declared.catalogs.CatalogFault.TheVariants.{Damaged, Memory}
+use Rattle.pm3_types.proofs.ZeroBytes.{zeros_of}
 use Rattle.pm3_types.proofs.Padding.{maps_bytes-append}
-
-first_of : (b : ℕ) (t : Bool) → (b == 0) && t ≡ true → b ≡ 0
-first_of b t is = grind (arith, nat_tests)
-
-rest_of : (a t : Bool) → a && t ≡ true → t ≡ true
-rest_of true t is = is
-rest_of false t is = cc
-
--- zero bytes are so many zeros
-pub zeros_of : (bytes : List ℕ) → is_zero bytes ≡ true → bytes ≡ replicate (length bytes) 0
-zeros_of [] is = refl
-zeros_of (b ∷ bytes) is =
-    let rest : bytes ≡ replicate (length bytes) 0 = zeros_of bytes (rest_of (b == 0) (is_zero bytes) is) in
-    let first : b ≡ 0 = first_of b (is_zero bytes) is in
-    λ i. first i ∷ rest i
 
 -- a head is the number that it gives and four zeros
 pub head_of : (head : List ℕ) (count : ℕ) → length head ≡ 8 → to_le_bytes w32 count ≡ take 4 head → is_zero (drop 4 head) ≡ true → head ≡ catalog_head count

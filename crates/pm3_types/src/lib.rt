@@ -8,6 +8,9 @@
 //! their laws in the functions of `laws` and `image_law`.
 #![tactic(auto)]
 
+// Bytes of files.
+mod bytes;
+
 // Type maps and the catalog.
 mod catalogs;
 mod page_one;
@@ -21,6 +24,7 @@ mod places;
 #[cfg(test)]
 mod tests;
 
+pub use bytes::{has_zeros, is_zero, put, u32_at, u32_field, u64_at, u64_field};
 pub use catalogs::{AddFault, Catalog, CatalogFault};
 pub use image_law::{placing_law, shown_law, starts_law, write_law};
 pub use laws::{dumps, numberings, pages, reached_names};

@@ -1,9 +1,11 @@
 //! The bytes of page 1: the number of types, then eight bytes for each type, then zeros.
-ghost use Rattle.std.specs.Prelude.{◌≡◌, ◌+◌, ◌*◌, ◌≤◌, length, take, drop, ◌++◌, None, IfOk, OnOk, IfErr, MatchResult};
-ghost use Rattle.std.specs.Int.{w32, to_le_bytes, from_le_bytes};
+ghost use Rattle.std.specs.Prelude.{◌≡◌, ◌≤◌, length, None, IfOk, OnOk, IfErr};
+ghost use Rattle.std.specs.Int.{w32};
+ghost use Rattle.pm3_types.specs.Bytes.{number_at};
 ghost use Rattle.pm3_types.specs.PageOne.{catalog_head, catalog_page, map_bytes, maps_bytes, padded};
-ghost use Rattle.pm3_types.specs.CatalogForm.{departure, head_departure, maps_departure, map_departure, is_zero, IsCauseOf};
+ghost use Rattle.pm3_types.specs.CatalogForm.{departure, head_departure, maps_departure, map_departure, IsCauseOf};
 
+use crate::bytes::{is_zero, put, u32_at};
 use crate::catalogs::CatalogFault;
 use crate::type_map::{MOST_FIELDS, Tail, TypeMap};
 use std::alloc::Global;
@@ -42,14 +44,6 @@ fn to_bytes(map: TypeMap) -> [u8; 8]
     [map.count, map.tail.code(), 0, 0, a, b, c, d]
 }
 
-/// Writes bytes over those that begin at `at`.
-fn put(out: &mut [u8], at: usize, bytes: &[u8])
-    requires { at + length bytes.now ≤ length out.old }
-    ensures { out.new ≡ take at out.old ++ bytes.now ++ drop (at + length bytes.now) out.old }
-{
-    out[at..at + bytes.len()].copy_from_slice(bytes);
-}
-
 /// The maps whose page 1 this is.
 pub(crate) fn decode(alloc: Global, bytes: &[u8]) -> Result<Vec<TypeMap>, CatalogFault>
     requires { length bytes.now ≡ 4096 }
@@ -68,16 +62,16 @@ pub(crate) fn decode(alloc: Global, bytes: &[u8]) -> Result<Vec<TypeMap>, Catalo
 fn read_head(head: &[u8]) -> Result<u32, CatalogFault>
     requires { length head.now ≡ 8 }
     ensures sound { OnOk result (head_departure head.now ≡ None) }
-    ensures value { IfOk result (λ count. count ≡ from_le_bytes w32 (take 4 head.now)) }
+    ensures value { IfOk result (λ count. count ≡ number_at w32 0 head.now) }
     ensures few { IfOk result (λ count. count ≤ 256) }
     ensures same { IfOk result (λ count. head.now ≡ catalog_head count) }
     ensures fault { IfErr result (λ fault. IsCauseOf (head_departure head.now) fault) }
 {
-    let (number, gap) = head.split_at(4);
-    let count = read_u32(number);
+    let count = u32_at(head, 0);
     if count > MOST_TYPES {
         return Err(CatalogFault::Damaged { offset: 0 });
     }
+    let (_, gap) = head.split_at(4);
     if !is_zero(gap) {
         return Err(CatalogFault::Damaged { offset: 4 });
     }
@@ -122,35 +116,18 @@ fn read_map(entry: &[u8], at: u32) -> Result<TypeMap, CatalogFault>
     ensures sound { OnOk result (map_departure at entry.now ≡ None) }
     ensures fault { IfErr result (λ fault. IsCauseOf (map_departure at entry.now) fault) }
 {
-    let (front, mask) = entry.split_at(4);
-    let count = front[0];
+    let count = entry[0];
     if count > MOST_FIELDS {
         return Err(CatalogFault::Damaged { offset: at });
     }
-    let Some(tail) = Tail::from_code(front[1]) else {
+    let Some(tail) = Tail::from_code(entry[1]) else {
         return Err(CatalogFault::Damaged { offset: at + 1 });
     };
-    if front[2] != 0 || front[3] != 0 {
+    if entry[2] != 0 || entry[3] != 0 {
         return Err(CatalogFault::Damaged { offset: at + 2 });
     }
-    let Some(map) = TypeMap::new(count, read_u32(mask), tail) else {
+    let Some(map) = TypeMap::new(count, u32_at(entry, 4), tail) else {
         return Err(CatalogFault::Damaged { offset: at + 4 });
     };
     Ok(map)
-}
-
-/// A number of four bytes.
-fn read_u32(bytes: &[u8]) -> u32
-    requires { length bytes.now ≡ 4 }
-    ensures value { result ≡ from_le_bytes w32 bytes.now }
-    ensures bytes { to_le_bytes w32 result ≡ bytes.now }
-{
-    u32::from_le_bytes([bytes[0], bytes[1], bytes[2], bytes[3]])
-}
-
-/// Whether all bytes are zero.
-fn is_zero(bytes: &[u8]) -> bool
-    ensures { result ≡ is_zero bytes.now }
-{
-    bytes.iter().all(|b| *b == 0)
 }

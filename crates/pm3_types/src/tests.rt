@@ -12,6 +12,21 @@ fn maps_have_at_most_32_fields_and_no_bit_past_them(rt: HostRuntime) {
 }
 
 #[test]
+fn a_field_that_is_cut_or_out_of_its_bounds_departs(rt: HostRuntime) {
+    let mut bytes = [9, 0, 1, 0, 0, 0, 0, 0, 0, 0, 7];
+    assert_eq!(rt; u32_field(&bytes, 1, 256, 256), Some(256));
+    assert_eq!(rt; u32_field(&bytes, 1, 257, 300), None);
+    assert_eq!(rt; u32_field(&bytes, 8, 0, u32::MAX), None);
+    assert_eq!(rt; u64_field(&bytes, 3, 0, 7 << 56), Some(7 << 56));
+    assert_eq!(rt; u64_field(&bytes, 3, 0, 7), None);
+    assert!(rt; has_zeros(&bytes, 3, 7));
+    assert!(rt; !has_zeros(&bytes, 3, 8));
+    assert!(rt; !has_zeros(&bytes, 9, 3));
+    put(&mut bytes, 9, &[5, 6]);
+    assert_eq!(rt; &bytes[8..], [0, 5, 6].as_slice());
+}
+
+#[test]
 fn a_catalog_is_full_at_256_types(rt: HostRuntime) -> Result<(), Fail> {
     let map = TypeMap::new(2, 1, Tail::Refs).ok_or("two fields, the first a reference")?;
     let mut catalog = Catalog::new(rt.alloc());
