@@ -32,6 +32,10 @@ pub record TornCut (n : ℕ) (old new : List ℕ) : Type 0 where
   pub front : take n new ≡ take n old
   pub no_longer : length new ≤ length old
 
+-- any bytes may stand there now
+abbrev pub Anything : List ℕ → List ℕ → Type 0
+Anything old new = Unit {0}
+
 -- no byte has changed
 abbrev pub Unchanged : List ℕ → List ℕ → Type 0
 Unchanged old new = new ≡ old

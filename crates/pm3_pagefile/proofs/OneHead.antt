@@ -1,52 +1,29 @@
 -- The bytes of marks have the form and tell the marks.
-use Rattle.std.proofs.Common.{◌≡◌, ◌≤◌, ◌<◌, ◌+◌, ◌-◌, ◌^◌, ℕ, zero, suc, List, length, replicate, Bool, true, false, Option, None, refl, sym, arith, ap, ◌∙◌, length-append}
-use Rattle.std.proofs.lemmas.Bool.{le-leb, and_from}
+use Rattle.std.proofs.Common.{◌≡◌, ◌≤◌, ◌<◌, ◌+◌, ◌-◌, ◌^◌, Bool, ℕ, List, length, Option, None, true, refl, sym, arith, ap, ◌∙◌, length-append}
 use Rattle.std.proofs.lemmas.List.{length-replicate}
 use Rattle.std.proofs.lemmas.Nat.{from_le_bytes-to_le_bytes_4, from_le_bytes-to_le_bytes_8}
-use Rattle.std.specs.Prelude.{nat_le, ◌&&◌}
-use Rattle.std.specs.Int.{Width, byte_len, w32, w64}
+use Rattle.std.specs.Int.{w32, w64}
 use Rattle.std.specs.Option.{option_or}
 use Rattle.pm3_page.specs.declared.marks.Marks.{Marks}
-use Rattle.pm3_types.specs.PageOne.{padded, zeros}
-use Rattle.pm3_types.specs.CatalogForm.{is_zero, unless}
 use Rattle.pm3_page.specs.Head.{head_bytes, head_page}
-use Rattle.pm3_pagefile.specs.HeadForm.{number_at, is_between, ends_in_zeros, kind}
+use Rattle.pm3_types.specs.Bytes.{Field, number_at, are_zeros, has_field, offset_of, unless}
+use Rattle.pm3_types.specs.Bytes.Field.{Number, Zeros}
+use Rattle.pm3_types.specs.PageOne.{padded, zeros}
+use Rattle.pm3_types.proofs.ZeroBytes.{between, is_zero-replicate, zeros_there}
+use Rattle.pm3_pagefile.specs.HeadForm.{kind}
 use Rattle.pm3_pagefile.specs.HeadLaws.{HeadHasForm, OneHead}
-
-passes : (good : Bool) (at : ℕ) (later : Option ℕ) → good ≡ true → later ≡ None → option_or (unless good at) later ≡ None
-passes true at later is none = none
-passes false at later is none = absurd (cc is)
-
-none_departs : (good : Bool) (at : ℕ) → good ≡ true → unless good at ≡ None
-none_departs true at is = refl
-none_departs false at is = absurd (cc is)
-
-zeros_are : (n : ℕ) → is_zero (replicate n 0) ≡ true
-zeros_are zero = refl
-zeros_are (suc n) = zeros_are n
 
 length-zeros : (n : ℕ) → length (zeros n) ≡ n
 unfolding zeros
 length-zeros n = length-replicate n 0
 
-is_zero-zeros : (n : ℕ) → is_zero (zeros n) ≡ true
-unfolding zeros
-is_zero-zeros n = zeros_are n
-
-size : (marks : Marks) → length (head_page marks) ≡ 4096
+pub size : (marks : Marks) → length (head_page marks) ≡ 4096
 unfolding padded
 size marks = length-append (head_bytes marks) (zeros 4056) ∙ ap (λ (n : ℕ). 40 + n) (length-zeros 4056)
 
-between : (w : Width) (at least most n : ℕ) (bytes : List ℕ) → at + byte_len w ≤ length bytes → number_at w at bytes ≡ n → least ≤ n → n ≤ most → is_between w at least most bytes ≡ true
-unfolding is_between
-between w at least most n bytes fits is low high =
-    and_from (nat_le (at + byte_len w) (length bytes)) (nat_le least (number_at w at bytes) && nat_le (number_at w at bytes) most) (le-leb (at + byte_len w) (length bytes) fits)
-    (and_from (nat_le least (number_at w at bytes)) (nat_le (number_at w at bytes) most) (le-leb least (number_at w at bytes) (omega arith)) (le-leb (number_at w at bytes) most (omega arith)))
-
-ends : (marks : Marks) → ends_in_zeros 40 (head_page marks) ≡ true
-unfolding ends_in_zeros padded
-ends marks =
-    and_from (nat_le 4096 (length (head_page marks))) (is_zero (zeros 4056)) (le-leb 4096 (length (head_page marks)) (omega (arith, size marks))) (is_zero-zeros 4056)
+ends : (marks : Marks) → are_zeros 40 4056 (head_page marks) ≡ true
+unfolding padded zeros
+ends marks = zeros_there 40 4056 (head_page marks) (omega (arith, size marks)) (is_zero-replicate 4056)
 
 module _ (marks : Marks) where
   kind_at : number_at w64 0 (head_page marks) ≡ kind
@@ -77,6 +54,10 @@ module _ (marks : Marks) where
   unfolding number_at padded
   next_seq_at fits = from_le_bytes-to_le_bytes_8 marks.next_seq fits
 
+-- one field more that is as the form says
+good : (field : Field) (bytes : List ℕ) {later : Option ℕ} → has_field bytes field ≡ true → later ≡ None → option_or (unless (has_field bytes field) (offset_of field)) later ≡ None
+good field bytes {later} is none = ap (λ (b : Bool). option_or (unless b (offset_of field)) later) is ∙ none
+
 pub head_has_form : HeadHasForm
 head_has_form marks are =
     let page : List ℕ = head_page marks in
@@ -86,17 +67,14 @@ head_has_form marks are =
     let next_name : number_at w64 24 (head_page marks) ≡ marks.next_name = next_name_at marks (omega (arith, are.next_name)) in
     let next_seq : number_at w64 32 (head_page marks) ≡ marks.next_seq = next_seq_at marks are.next_seq.1 in
     let highest : marks.high_page ≤ number_at w32 12 (head_page marks) = omega (arith, pages, are.high_page) in
-    let fields =
-    passes (is_between w64 0 kind kind page) 0 _ (between w64 0 kind kind kind page (omega arith) (kind_at marks) (omega arith) (omega arith))
-    (passes (is_between w32 8 1 1 page) 8 _ (between w32 8 1 1 1 page (omega arith) (version_at marks) (omega arith) (omega arith))
-    (passes (is_between w32 12 16 16384 page) 12 _ (between w32 12 16 16384 marks.pages page (omega arith) pages are.pages.0 are.pages.1)
-    (passes (is_between w32 16 3 (number_at w32 12 page) page) 16 _ (between w32 16 3 (number_at w32 12 page) marks.high_page page (omega arith) high_page are.high_page.0 highest)
-    (passes (is_between w32 20 0 0 page) 20 _ (between w32 20 0 0 0 page (omega arith) (gap_at marks) (omega arith) (omega arith))
-    (passes (is_between w64 24 1 (2 ^ 62) page) 24 _ (between w64 24 1 (2 ^ 62) marks.next_name page (omega arith) next_name are.next_name.0 are.next_name.1)
-    (passes (is_between w64 32 1 (2 ^ 64 - 1) page) 32 None (between w64 32 1 (2 ^ 64 - 1) marks.next_seq page (omega arith) next_seq are.next_seq.0 (omega (arith, are.next_seq)))
-    refl))))))
-    in
-    ap (λ (o : Option ℕ). option_or o (unless (ends_in_zeros 40 (head_page marks)) 40)) fields ∙ none_departs (ends_in_zeros 40 (head_page marks)) 40 (ends marks)
+    good (Number 0 w64 kind kind) page (between 0 w64 kind kind kind page (omega arith) (kind_at marks) (omega arith) (omega arith))
+    (good (Number 8 w32 1 1) page (between 8 w32 1 1 1 page (omega arith) (version_at marks) (omega arith) (omega arith))
+    (good (Number 12 w32 16 16384) page (between 12 w32 16 16384 marks.pages page (omega arith) pages are.pages.0 are.pages.1)
+    (good (Number 16 w32 3 (number_at w32 12 page)) page (between 16 w32 3 (number_at w32 12 page) marks.high_page page (omega arith) high_page are.high_page.0 highest)
+    (good (Number 20 w32 0 0) page (between 20 w32 0 0 0 page (omega arith) (gap_at marks) (omega arith) (omega arith))
+    (good (Number 24 w64 1 (2 ^ 62)) page (between 24 w64 1 (2 ^ 62) marks.next_name page (omega arith) next_name are.next_name.0 are.next_name.1)
+    (good (Number 32 w64 1 (2 ^ 64 - 1)) page (between 32 w64 1 (2 ^ 64 - 1) marks.next_seq page (omega arith) next_seq are.next_seq.0 (omega (arith, are.next_seq)))
+    (good (Zeros 40 4056) page (ends marks) refl)))))))
 
 pub one_head : OneHead
 one_head marks others are also same =

@@ -1,16 +1,9 @@
 -- Pieces of pages.
-use Rattle.std.proofs.Common.{◌≡◌, ℕ, ◌+◌, ◌-◌, ◌*◌, ◌≤◌, min, List, ◌++◌, length, take, drop, sym, ap, subst, ◌∙◌}
-use Rattle.std.proofs.lemmas.List.{take-append-drop, drop-drop, length-drop, length-take-le, take_at, take_min}
+use Rattle.std.proofs.Common.{◌≡◌, ℕ, ◌-◌, ◌*◌, ◌≤◌, min, List, length, take, drop, sym, ap, subst, ◌∙◌}
+use Rattle.std.proofs.lemmas.List.{length-drop, length-take-le, take_at, take_min}
 use Rattle.pm3_disk.specs.Content.{IsRead}
 use Rattle.pm3_types.specs.PageOne.{padded, zeros}
 use Rattle.pm3_pagefile.specs.PageBytes.{page_at}
-
--- a list from a place on is a cell and what is behind it
-pub more_of : (bytes cell behind : List ℕ) (n at next : ℕ) → at + n ≡ next → cell ≡ take n (drop at bytes) → drop next bytes ≡ behind → drop at bytes ≡ cell ++ behind
-more_of bytes cell behind n at next follows is rest =
-    sym (take-append-drop n (drop at bytes))
-    ∙ ap (λ (front : List ℕ). front ++ drop n (drop at bytes)) (sym is)
-    ∙ ap (λ (back : List ℕ). cell ++ back) (drop-drop n at bytes ∙ ap (λ (k : ℕ). drop k bytes) follows ∙ rest)
 
 -- the front of a page that was padded behind its first bytes
 pub take-padded : (count : ℕ) (page : List ℕ) → count ≤ length page → take count (padded 4096 (take count page)) ≡ take count page

@@ -1,6 +1,7 @@
 -- Where page 1 of a file departs from the form of a catalog, also where the file ends within the page.
-use Rattle.std.specs.Prelude.{◌≡◌, ℕ, ◌+◌, ◌-◌, ◌*◌, ◌%◌, min, nat_lt, cond, List, length, take, Option, None, Some, Result, Ok, Err}
-use Rattle.std.specs.Int.{w32, from_le_bytes}
+use Rattle.std.specs.Prelude.{◌≡◌, ℕ, ◌+◌, ◌-◌, ◌*◌, ◌%◌, min, nat_lt, cond, List, length, Option, None, Some, Result, Ok, Err}
+use Rattle.std.specs.Int.{w32}
+use Rattle.pm3_types.specs.Bytes.{number_at}
 use Rattle.pm3_types.specs.Fields.{Fields}
 use Rattle.pm3_types.specs.PageOne.{catalog_page, padded}
 use Rattle.pm3_types.specs.CatalogForm.{departure}
@@ -22,8 +23,9 @@ abbrev pub no_later : Option ℕ → ℕ → ℕ
 no_later None at = at
 no_later (Some offset) at = min offset at
 
+-- the number of types that page 1 gives
 abbrev pub types_in : List ℕ → ℕ
-types_in bytes = from_le_bytes w32 (take 4 bytes)
+types_in bytes = number_at w32 0 bytes
 
 -- of a page that the file has only in part, the first field that departs in what is there, or the first that isn't whole
 abbrev pub part_departure : List ℕ → ℕ

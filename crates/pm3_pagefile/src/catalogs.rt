@@ -1,29 +1,26 @@
 //! The catalog, read from page 1.
-ghost use Rattle.std.specs.Prelude.{◌≡◌, ◌+◌, ◌<◌, ◌≤◌, ◌^◌, length, take, IfErr};
-ghost use Rattle.std.specs.Int.{w32, from_le_bytes};
-ghost use Rattle.pm3_disk.specs.Content.{IfTold, Unchanged};
-ghost use Rattle.pm3_disk.specs.Faults.{Rose};
-ghost use Rattle.pm3_disk.specs.Moments.{After, Passes};
+ghost use Rattle.std.specs.Prelude.{◌≡◌, ◌+◌, ◌<◌, ◌≤◌, ◌^◌, length, take, IfErr, IsErrOf};
+ghost use Rattle.pm3_disk.specs.Content.{IfTold};
+ghost use Rattle.pm3_disk.specs.Devices.{HasFailed, HasNotFailed, OnlyReads};
 ghost use Rattle.pm3_types.specs.PageOne.{padded};
 ghost use Rattle.pm3_pagefile.specs.CatalogBytes as form;
-ghost use Rattle.pm3_pagefile.specs.CatalogBytes.{IsReadAs, types_in};
+ghost use Rattle.pm3_pagefile.specs.CatalogBytes.{IsReadAs};
 ghost use Rattle.pm3_pagefile.specs.PageBytes.{page_at};
 
 use crate::faults::CatalogReadFault;
 use crate::padding::PAGE_SIZE;
 use crate::transfer::read_page;
 use pm3_disk::Disk;
-use pm3_types::{Catalog, CatalogFault};
+use pm3_types::{Catalog, CatalogFault, u32_at};
 use std::alloc::Global;
 
 /// Reads the catalog of page 1. The offset of a damage is that of the first byte of the first field that departs from the
 /// form or that the file hasn't whole.
 pub fn read_catalog<D: Disk>(alloc: Global, disk: &mut D) -> Result<Catalog, CatalogReadFault>
     ensures read { IfTold (D.content disk.old) (λ bytes. IsReadAs (page_at 1 bytes) result) }
-    ensures same { D.content disk.new ≡ D.content disk.old }
-    ensures crash { Passes (D.moment disk.old) (D.moment disk.new) (D.images disk.old) (D.images disk.new) (After (D.images disk.old (D.moment disk.old)) Unchanged) }
-    ensures later { D.faults disk.old ≤ D.faults disk.new }
-    ensures cause { IfErr result (λ fault. fault ≡ CatalogReadFault.PageFault → Rose (D.faults disk.old) (D.faults disk.new)) }
+    ensures reads { OnlyReads D.Disk disk.old disk.new }
+    ensures cause { IsErrOf result CatalogReadFault.PageFault → HasFailed D.Disk disk.old disk.new }
+    ensures calm { ¬ IsErrOf result CatalogReadFault.PageFault → HasNotFailed D.Disk disk.old disk.new }
 {
     let mut page = [0; PAGE_SIZE];
     let Ok(count) = read_page(disk, 1, &mut page) else {
@@ -40,7 +37,7 @@ fn decode(alloc: Global, page: &[u8; PAGE_SIZE], count: u32) -> Result<Catalog, 
     ensures damage { IfErr result (λ fault. fault ≡ CatalogReadFault.PageFault → ⊥) }
 {
     let whole = count as usize == PAGE_SIZE;
-    let missing = catalog_field(types_of(page), count);
+    let missing = catalog_field(u32_at(page, 0), count);
     match Catalog::decode(alloc, page) {
         Ok(catalog) if whole => Ok(catalog),
         Ok(_) => Err(damaged(missing)),
@@ -56,14 +53,6 @@ fn damaged(at: u32) -> CatalogReadFault
     ensures { result ≡ CatalogReadFault.Damaged (4096 + at) }
 {
     CatalogReadFault::Damaged { offset: 4096 + at }
-}
-
-/// The number of types that the first bytes of page 1 give.
-fn types_of(page: &[u8]) -> u32
-    requires { length page.now ≡ 4096 }
-    ensures { result ≡ types_in page.now }
-{
-    u32::from_le_bytes([page[0], page[1], page[2], page[3]])
 }
 
 /// The first byte of the field of page 1 that has the byte `at`, where there are so many types.

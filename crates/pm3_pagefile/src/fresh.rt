@@ -1,8 +1,7 @@
 //! The page file of a store without objects.
 ghost use Rattle.std.specs.Prelude.{◌≡◌, ◌+◌, ◌*◌, ◌-◌, ◌≤◌, [], ◌++◌, length, option_map, OnOk};
-ghost use Rattle.pm3_disk.specs.Content.{IfTold};
-ghost use Rattle.pm3_disk.specs.Faults.{HasCause};
-ghost use Rattle.pm3_disk.specs.Moments.{IsSettled};
+ghost use Rattle.pm3_disk.specs.Content.{Anything, IfTold};
+ghost use Rattle.pm3_disk.specs.Devices.{IsHonest, IsSynced, Takes};
 ghost use Rattle.pm3_types.specs.PageOne.{zeros};
 ghost use Rattle.pm3_pagefile.specs.EmptyFile.{first_marks, page_file};
 
@@ -19,8 +18,9 @@ pub fn format<D: Disk>(disk: &mut D, pages: u32, catalog: &Catalog) -> Result<()
     requires few { 16 ≤ pages }
     requires most { pages ≤ 16384 }
     ensures ok { OnOk result (D.content disk.new ≡ option_map (λ _. page_file pages catalog.now) (D.content disk.old)) }
-    ensures settled { OnOk result (IsSettled (D.content disk.new) (D.images disk.new (D.moment disk.new))) }
-    ensures cause { HasCause (D.faults disk.old) (D.faults disk.new) result }
+    ensures settled { OnOk result (IsSynced D.Disk disk.new) }
+    ensures told { Takes D.Disk disk.old disk.new Anything }
+    ensures cause { IsHonest D.Disk disk.old disk.new result }
 {
     let mut catalog_page = [0; PAGE_SIZE];
     catalog.encode_into(&mut catalog_page);
@@ -52,7 +52,8 @@ fn marks_of(pages: u32) -> Marks
 fn empty<D: Disk>(disk: &mut D) -> Result<(), Failed>
     ensures ok { OnOk result (D.content disk.new ≡ option_map (λ _. []) (D.content disk.old)) }
     ensures len { OnOk result (IfTold (D.content disk.new) (λ bytes. length bytes ≡ 0)) }
-    ensures cause { HasCause (D.faults disk.old) (D.faults disk.new) result }
+    ensures told { Takes D.Disk disk.old disk.new Anything }
+    ensures cause { IsHonest D.Disk disk.old disk.new result }
 {
     disk.cut(0)
 }
@@ -62,7 +63,8 @@ fn append<D: Disk>(disk: &mut D, count: u32, page: &[u8; PAGE_SIZE]) -> Result<(
     requires { IfTold (D.content disk.old) (λ bytes. length bytes ≡ 4096 * count) }
     ensures ok { OnOk result (D.content disk.new ≡ option_map (λ bytes. bytes ++ page.now) (D.content disk.old)) }
     ensures len { OnOk result (IfTold (D.content disk.new) (λ bytes. length bytes ≡ 4096 * (count + 1))) }
-    ensures cause { HasCause (D.faults disk.old) (D.faults disk.new) result }
+    ensures told { Takes D.Disk disk.old disk.new Anything }
+    ensures cause { IsHonest D.Disk disk.old disk.new result }
 {
     disk.write_at(u64::from(count) * 4096, page)
 }
@@ -72,7 +74,8 @@ fn append_free<D: Disk>(disk: &mut D, pages: u32) -> Result<(), Failed>
     requires few { 3 ≤ pages }
     requires three { IfTold (D.content disk.old) (λ bytes. length bytes ≡ 4096 * 3) }
     ensures ok { OnOk result (D.content disk.new ≡ option_map (λ bytes. bytes ++ zeros (4096 * (pages - 3))) (D.content disk.old)) }
-    ensures cause { HasCause (D.faults disk.old) (D.faults disk.new) result }
+    ensures told { Takes D.Disk disk.old disk.new Anything }
+    ensures cause { IsHonest D.Disk disk.old disk.new result }
 {
     let free = [0; PAGE_SIZE];
     for number in 3..pages {

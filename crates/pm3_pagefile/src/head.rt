@@ -1,7 +1,7 @@
 //! Page 0: the marks as bytes.
 ghost use Rattle.std.specs.Prelude.{◌≡◌, ◌≤◌, None, length, IfOk, IfErr, OnOk};
 ghost use Rattle.pm3_page.specs.Head.{AreMarks, head_bytes, head_page};
-ghost use Rattle.pm3_pagefile.specs.HeadForm.{AreRead};
+ghost use Rattle.pm3_pagefile.specs.HeadForm.{AreReadIn};
 
 use crate::faults::MarksFault;
 use crate::fields::{long, short, zeros};
@@ -32,21 +32,22 @@ pub(crate) fn encode(marks: Marks) -> [u8; 40]
     ]
 }
 
-/// The marks of page 0, of which the file may have only the first bytes.
-pub(crate) fn decode(bytes: &[u8]) -> Result<Marks, MarksFault>
-    requires { length bytes.now ≤ 4096 }
-    ensures read { AreRead bytes.now result }
-    ensures bounds { IfOk result AreMarks }
+/// The marks of page 0, of which the file may have only the first bytes, in a store of `least` to `most` pages.
+pub(crate) fn decode(bytes: &[u8], least: u32, most: u32) -> Result<Marks, MarksFault>
+    requires size { length bytes.now ≤ 4096 }
+    requires pages { (16 ≤ least) × (most ≤ 16384) }
+    ensures read { AreReadIn least most bytes.now result }
+    ensures bounds { IfOk result (λ marks. AreMarks marks × (least ≤ marks.pages) × (marks.pages ≤ most)) }
     ensures damage { IfErr result (λ fault. fault ≡ MarksFault.PageFault → ⊥) }
 {
     long(bytes, 0, KIND, KIND)?;
     short(bytes, 8, VERSION, VERSION)?;
-    let pages = short(bytes, 12, 16, 16_384)?;
+    let pages = short(bytes, 12, least, most)?;
     let high_page = short(bytes, 16, 3, pages)?;
     short(bytes, 20, 0, 0)?;
     let next_name = long(bytes, 24, 1, 1 << 62)?;
     let next_seq = long(bytes, 32, 1, u64::MAX)?;
-    zeros(bytes, 40)?;
+    zeros(bytes, 40, 4056)?;
     Ok(Marks {
         pages,
         high_page,

@@ -1,5 +1,5 @@
 //! An image, read from a page.
-ghost use Rattle.std.specs.Prelude.{◌≡◌, ◌<◌, ◌≤◌, take, IfOk, IfErr};
+ghost use Rattle.std.specs.Prelude.{◌≡◌, ◌<◌, ◌≤◌, take, IfOk, IfErr, IsErrOf};
 ghost use Rattle.pm3_disk.specs.Content.{IfTold};
 ghost use Rattle.pm3_disk.specs.Faults.{Rose};
 ghost use Rattle.pm3_types.specs.PageForm.{IsSound};
@@ -31,7 +31,8 @@ pub fn load<R: Reader>(
     ensures sound { IfOk result (λ image. IsSound catalog.now BASE pages image) }
     ensures same { R.content reader.new ≡ R.content reader.old }
     ensures later { R.faults reader.old ≤ R.faults reader.new }
-    ensures cause { IfErr result (λ fault. fault ≡ LoadFault.PageFault → Rose (R.faults reader.old) (R.faults reader.new)) }
+    ensures cause { IsErrOf result LoadFault.PageFault → Rose (R.faults reader.old) (R.faults reader.new) }
+    ensures calm { ¬ IsErrOf result LoadFault.PageFault → R.faults reader.new ≡ R.faults reader.old }
 {
     let mut bytes = [0; PAGE_SIZE];
     let Ok(count) = fetch_page(reader, page, &mut bytes) else {

@@ -1,8 +1,8 @@
 //! One page from a device.
 ghost use Rattle.std.specs.Prelude.{◌≡◌, ◌*◌, ◌≤◌, length, take, IfOk};
-ghost use Rattle.pm3_disk.specs.Content.{IfTold, Unchanged};
+ghost use Rattle.pm3_disk.specs.Content.{IfTold};
+ghost use Rattle.pm3_disk.specs.Devices.{IsHonest, OnlyReads};
 ghost use Rattle.pm3_disk.specs.Faults.{HasCause};
-ghost use Rattle.pm3_disk.specs.Moments.{After, Passes};
 ghost use Rattle.pm3_types.specs.PageOne.{padded};
 ghost use Rattle.pm3_pagefile.specs.PageBytes.{page_at};
 
@@ -15,9 +15,8 @@ pub(crate) fn read_page<D: Disk>(disk: &mut D, page: u32, out: &mut [u8]) -> Res
     ensures bound { IfOk result (λ count. count ≤ 4096) }
     ensures zeros { IfOk result (λ count. out.new ≡ padded 4096 (take count out.new)) }
     ensures bytes { IfOk result (λ count. IfTold (D.content disk.old) (λ bytes. take count out.new ≡ page_at page bytes)) }
-    ensures same { D.content disk.new ≡ D.content disk.old }
-    ensures crash { Passes (D.moment disk.old) (D.moment disk.new) (D.images disk.old) (D.images disk.new) (After (D.images disk.old (D.moment disk.old)) Unchanged) }
-    ensures cause { HasCause (D.faults disk.old) (D.faults disk.new) result }
+    ensures reads { OnlyReads D.Disk disk.old disk.new }
+    ensures cause { IsHonest D.Disk disk.old disk.new result }
 {
     let count = match disk.read_at(4096 * u64::from(page), out) {
         Ok(count) => count,

@@ -10,7 +10,7 @@ returns-clause-read c =
     let version : 1 ≡ c.in_ok-short.field-0 = omega (arith, c.in_ok-short.ensures.bounds) in
     let gap : 0 ≡ c.in_ok-short-2.field-0 = omega (arith, c.in_ok-short-2.ensures.bounds) in (
       search rules,
-      page_from _ c.args.bytes.now c.requires (record {
+      page_from _ c.args.bytes.now c.requires.size (record {
         kind_is = ap (to_le_bytes w64) kind_is ∙ c.in_ok-long.ensures.bytes;
         version = ap (to_le_bytes w32) version ∙ c.in_ok-short.ensures.bytes;
         pages = c.in_ok-pages.ensures.bytes;

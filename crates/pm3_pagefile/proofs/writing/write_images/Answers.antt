@@ -11,21 +11,21 @@ returns-clause-ok g c =
     (c.padded_page-head.ensures ∙ ap (padded 4096) c.encode.ensures) c.in-Ok.ensures.ok c.in-Ok-write_page.ensures.ok c.in-Ok-sync.ensures.same
 
 pub returns-in_default-clause-order : goal.returns-in_default-clause-order
-returns-in_default-clause-order g c = not_yet _ _ _ _ _ _ _ c.in_default.ensures.crash
+returns-in_default-clause-order g c = not_yet g.D.Disk _ c.in_default.ensures.crash
 
 pub returns-in_default-write_page-clause-order : goal.returns-in_default-write_page-clause-order
 returns-in_default-write_page-clause-order g c =
-    turned (images_given c.args.catalog.now BASE c.args.images.now.images) _ _ _ _ _ _ _ _ _ _ c.in-Ok.ensures.crash c.in_default-write_page.ensures.crash c.in-Ok.ensures.ok
-    (λ bytes told. g.met.D.Disk.reads_an_image c.write_pages.new.disk bytes told)
+    turned g.D.Disk _ c.in-Ok.ensures.crash c.in_default-write_page.ensures.crash c.in-Ok.ensures.ok
+    (λ bytes told. g.met.D.Disk.leaves_what_it_reads c.write_pages.new.disk bytes told)
 
 pub returns-in_default-sync-clause-order : goal.returns-in_default-sync-clause-order
 returns-in_default-sync-clause-order g c =
-    turned (images_given c.args.catalog.now BASE c.args.images.now.images) _ _ _ _ _ _ _ _ _ _ c.in-Ok.ensures.crash
-    (both_calls _ _ _ _ _ _ _ _ c.in-Ok-write_page.ensures.crash c.in_default-sync.ensures.crash) c.in-Ok.ensures.ok
-    (λ bytes told. g.met.D.Disk.reads_an_image c.write_pages.new.disk bytes told)
+    let given = images_given c.args.catalog.now BASE c.args.images.now.images in
+    turned g.D.Disk given c.in-Ok.ensures.crash (both_calls g.D.Disk given c.in-Ok-write_page.ensures.crash c.in_default-sync.ensures.crash) c.in-Ok.ensures.ok
+    (λ bytes told. g.met.D.Disk.leaves_what_it_reads c.write_pages.new.disk bytes told)
 
 pub returns-clause-order : goal.returns-clause-order
 returns-clause-order g c =
-    turned (images_given c.args.catalog.now BASE c.args.images.now.images) _ _ _ _ _ _ _ _ _ _ c.in-Ok.ensures.crash
-    (both_calls _ _ _ _ _ _ _ _ c.in-Ok-write_page.ensures.crash c.in-Ok-sync.ensures.crash) c.in-Ok.ensures.ok
-    (λ bytes told. g.met.D.Disk.reads_an_image c.write_pages.new.disk bytes told)
+    let given = images_given c.args.catalog.now BASE c.args.images.now.images in
+    turned g.D.Disk given c.in-Ok.ensures.crash (both_calls g.D.Disk given c.in-Ok-write_page.ensures.crash c.in-Ok-sync.ensures.crash) c.in-Ok.ensures.ok
+    (λ bytes told. g.met.D.Disk.leaves_what_it_reads c.write_pages.new.disk bytes told)
