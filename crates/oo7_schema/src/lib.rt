@@ -2,10 +2,10 @@
 //!
 //! The layer above may rely on one thing. The catalog that `catalog` makes is `schema` of specs/: the list of the twelve
 //! classes, each with the number of its fields, the set of those that are references, and its tail, under the number that is
-//! its place in the list. Want of memory is the only other answer.
+//! its place in the list. It takes no memory, and nothing else is ever answered.
 #![tactic(auto)]
 
-ghost use Rattle.std.specs.Prelude.{◌≡◌, ◌^◌, ◌<◌, ◌≤◌, [], ◌∷◌, ◌++◌, length, IfOk, OnOk};
+ghost use Rattle.std.specs.Prelude.{◌≡◌, ◌^◌, ◌<◌, ◌≤◌, [], ◌∷◌, ◌++◌, length, IsOkAnd};
 ghost use Rattle.oo7_schema.specs.Schema.{class, schema};
 
 pub use pm3_types::Memory;
@@ -14,35 +14,34 @@ use std::alloc::Global;
 
 /// The catalog of OO7, each class under its number.
 pub fn catalog(alloc: Global) -> Result<Catalog, Memory>
-    ensures { IfOk result (λ catalog. catalog ≡ schema) }
+    ensures { IsOkAnd result (λ catalog. catalog ≡ schema) }
 {
     let mut classes = Catalog::new(alloc);
-    add(&mut classes, 7, 0x60, Tail::Empty)?; // Module
-    add(&mut classes, 3, 0x06, Tail::Empty)?; // Manual
-    add(&mut classes, 5, 0x1c, Tail::Empty)?; // Complex
-    add(&mut classes, 5, 0x1c, Tail::Empty)?; // Base
-    add(&mut classes, 4, 0x0c, Tail::Refs)?; // Composite
-    add(&mut classes, 4, 0x0c, Tail::Empty)?; // Document
-    add(&mut classes, 6, 0x20, Tail::Refs)?; // Atomic
-    add(&mut classes, 4, 0x0c, Tail::Empty)?; // Connection
-    add(&mut classes, 1, 0x01, Tail::Bytes)?; // Chunk
-    add(&mut classes, 32, 0xfffe_0002, Tail::Empty)?; // Leaf
-    add(&mut classes, 32, 0xffff_0000, Tail::Empty)?; // Inner
-    add(&mut classes, 3, 0x04, Tail::Empty)?; // Tree
+    add(&mut classes, 7, 0x60, Tail::Empty); // Module
+    add(&mut classes, 3, 0x06, Tail::Empty); // Manual
+    add(&mut classes, 5, 0x1c, Tail::Empty); // Complex
+    add(&mut classes, 5, 0x1c, Tail::Empty); // Base
+    add(&mut classes, 4, 0x0c, Tail::Refs); // Composite
+    add(&mut classes, 4, 0x0c, Tail::Empty); // Document
+    add(&mut classes, 6, 0x20, Tail::Refs); // Atomic
+    add(&mut classes, 4, 0x0c, Tail::Empty); // Connection
+    add(&mut classes, 1, 0x01, Tail::Bytes); // Chunk
+    add(&mut classes, 32, 0xfffe_0002, Tail::Empty); // Leaf
+    add(&mut classes, 32, 0xffff_0000, Tail::Empty); // Inner
+    add(&mut classes, 3, 0x04, Tail::Empty); // Tree
     Ok(classes)
 }
 
 /// Adds one class behind the others.
-fn add(classes: &mut Catalog, count: u8, refs: u32, tail: Tail) -> Result<(), Memory>
+fn add(classes: &mut Catalog, count: u8, refs: u32, tail: Tail)
     requires fields { count ≤ 32 }
     requires within { refs < 2 ^ count }
     requires room { length classes.old < 256 }
-    ensures { OnOk result (classes.new ≡ classes.old ++ class count refs tail ∷ []) }
+    ensures { classes.new ≡ classes.old ++ class count refs tail ∷ [] }
 {
-    match classes.add(TypeMap { count, refs, tail }) {
-        Ok(_) => Ok(()),
-        Err(_) => Err(Memory),
-    }
+    let Ok(_) = classes.add(TypeMap { count, refs, tail }) else {
+        unreachable!()
+    };
 }
 
 #[cfg(test)]

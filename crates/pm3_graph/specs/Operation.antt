@@ -86,6 +86,11 @@ abbrev pub IsNewTo : Part → Op → Type 0
 IsNewTo g (New name ty tail) = get g.records name ≡ None
 IsNewTo g op = Unit {0}
 
+-- the operation takes memory, as a new record alone does
+abbrev pub TakesMemory : Op → Type 0
+TakesMemory (New name ty tail) = Unit {0}
+TakesMemory op = ⊥
+
 -- the tail that a new record of a type may have
 abbrev pub IsTailOf : Option Fields → ℕ → Type 0
 IsTailOf None tail = Unit {0}

@@ -1,6 +1,6 @@
-ghost use Rattle.std.specs.Prelude.{◌≡◌, ◌⊎◌, Ok, Err, IfOk, IfErr, OnErr, MatchResult};
+ghost use Rattle.std.specs.Prelude.{◌≡◌, ◌≢◌, ◌⊎◌, Ok, Err, IfOk, IfErr, OnErr, IsErrOf, MatchResult};
 ghost use Rattle.std.specs.FinMap.{get};
-ghost use Rattle.pm3_graph.specs.Operation.{IsAllowed, outcome, read_of, write_of, new_of, unless_taken, empty_graph};
+ghost use Rattle.pm3_graph.specs.Operation.{IsAllowed, TakesMemory, outcome, read_of, write_of, new_of, unless_taken, empty_graph};
 
 use crate::kept::Kept;
 use crate::operations::{Op, PlainFault};
@@ -45,6 +45,7 @@ impl Plain {
         requires { IsAllowed catalog.now op }
         ensures ok { IfOk result (λ answer. outcome catalog.now op self.old ≡ Ok (answer, self.new)) }
         ensures refused { IfErr result (λ fault. (fault ≡ PlainFault.Memory) ⊎ (outcome catalog.now op self.old ≡ Err fault)) }
+        ensures memory { IsErrOf result PlainFault.Memory → TakesMemory op }
         ensures same { OnErr result (self.new ≡ self.old) }
     {
         match op {
@@ -104,7 +105,8 @@ impl Plain {
 
     /// Answers the value at a place of a record.
     fn read(&self, catalog: &Catalog, name: u64, place: Place) -> Result<u64, PlainFault>
-        ensures { MatchResult result (λ answer. read_of catalog.now self.now name place (get self.now.records name) ≡ Ok (answer, self.now)) (λ fault. read_of catalog.now self.now name place (get self.now.records name) ≡ Err fault) }
+        ensures memory { result ≢ Err PlainFault.Memory }
+        ensures step { MatchResult result (λ answer. read_of catalog.now self.now name place (get self.now.records name) ≡ Ok (answer, self.now)) (λ fault. read_of catalog.now self.now name place (get self.now.records name) ≡ Err fault) }
     {
         let Some(kept) = self.records.get(name) else {
             return Err(PlainFault::NoRecord { name });
@@ -126,7 +128,8 @@ impl Plain {
         place: Place,
         value: u64,
     ) -> Result<u64, PlainFault>
-        ensures { MatchResult result (λ answer. write_of catalog.now self.old name place value (get self.old.records name) ≡ Ok (answer, self.new)) (λ fault. (write_of catalog.now self.old name place value (get self.old.records name) ≡ Err fault) × (self.new ≡ self.old)) }
+        ensures memory { result ≢ Err PlainFault.Memory }
+        ensures step { MatchResult result (λ answer. write_of catalog.now self.old name place value (get self.old.records name) ≡ Ok (answer, self.new)) (λ fault. (write_of catalog.now self.old name place value (get self.old.records name) ≡ Err fault) × (self.new ≡ self.old)) }
     {
         let Some(kept) = self.records.get(name) else {
             return Err(PlainFault::NoRecord { name });

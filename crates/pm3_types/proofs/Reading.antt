@@ -70,7 +70,7 @@ pub cause_here : (count i : ℕ) (bytes : List ℕ) (maps : List Fields) (rest :
 cause_here count i bytes maps rest (Damaged offset) less so_far is =
     departs_here count i bytes maps rest (Some offset) less so_far
     (ap (λ (o : Option ℕ). option_or o (maps_departure (count - (i + 1)) (8 + 8 * i + 8) (drop 8 rest))) is)
-cause_here count i bytes maps rest Memory less so_far is = tt
+cause_here count i bytes maps rest Memory less so_far is = is
 
 -- one more type was read
 pub one_more : (count i : ℕ) (bytes : List ℕ) (maps : List Fields) (rest : List ℕ) (map : Fields) → count ≤ 256 → i < count → SoFar count i bytes maps rest

@@ -30,7 +30,7 @@ departure_by head rest = option_or (head_departure head) (maps_departure (number
 abbrev pub departure : List ℕ → Option ℕ
 departure bytes = departure_by (take 8 bytes) (drop 8 bytes)
 
--- a page is damaged at its first departure; want of memory has no cause in the page
+-- a page is damaged at its first departure, and memory is never wanted
 abbrev pub IsCauseOf : Option ℕ → CatalogFault → Type 0
 IsCauseOf departure (Damaged offset) = departure ≡ Some offset
-IsCauseOf departure Memory = Unit {0}
+IsCauseOf departure Memory = ⊥

@@ -4,6 +4,7 @@ ghost use Rattle.pm3_types.specs.CatalogForm.{departure, IsCauseOf};
 
 use crate::page_one::{MOST_TYPES, decode, encode};
 use crate::type_map::{TypeMap, TypeNo};
+use arrayvec::ArrayVec;
 use std::alloc::Global;
 use std::marker::Model;
 
@@ -12,7 +13,7 @@ use std::marker::Model;
 pub enum AddFault {
     /// It has `limit` maps already, the most that it may have.
     Full { limit: u32 },
-    /// Want of memory.
+    /// Want of memory, which a catalog in place never has.
     Memory,
 }
 
@@ -21,34 +22,32 @@ pub enum AddFault {
 pub enum CatalogFault {
     /// The field that begins at byte `offset` of the page is the first that departs from the form.
     Damaged { offset: u32 },
-    /// Want of memory.
+    /// Want of memory, which a catalog in place never has.
     Memory,
 }
 
-/// The types of a store, each under its number.
+/// The types of a store, each under its number. They stand in place, so that a catalog takes no memory.
 #[derive(Debug, Drop)]
 pub struct Catalog {
-    maps: Vec<TypeMap>,
+    maps: ArrayVec<TypeMap, MOST_TYPES>,
 }
 
 impl Model for Catalog {
-    ghost use Rattle.std.specs.Prelude.{List, ◌≤◌, length};
+    ghost use Rattle.std.specs.Prelude.{List};
     ghost use Rattle.pm3_types.specs.Fields.{Fields};
 
     ghost Value = { List Fields };
 
     ghost view = { λ c. c.maps.items };
-
-    ghost invariant = { λ c. length c.maps.items ≤ 256 };
 }
 
 impl Catalog {
-    /// A catalog without types. It takes memory from `alloc` once a type is added.
-    pub fn new(alloc: Global) -> Catalog
+    /// A catalog without types. It takes nothing from `alloc`, now or later.
+    pub fn new(_alloc: Global) -> Catalog
         ensures { result ≡ [] }
     {
         Catalog {
-            maps: Vec::new(alloc),
+            maps: ArrayVec::new(),
         }
     }
 
@@ -79,27 +78,27 @@ impl Catalog {
         ensures number { IfOk result (λ ty. ty ≡ length self.old) }
         ensures added { OnOk result (self.new ≡ self.old ++ map ∷ []) }
         ensures full { IsErrOf result (AddFault.Full 256) ↔ (length self.old ≡ 256) }
-        ensures faults { IfErr result (λ fault. (fault ≡ AddFault.Full 256) ⊎ (fault ≡ AddFault.Memory)) }
+        ensures fault { IfErr result (λ fault. fault ≡ AddFault.Full 256) }
         ensures refused { OnErr result (self.new ≡ self.old) }
     {
         let number = self.maps.len();
-        if number == MOST_TYPES as usize {
-            return Err(AddFault::Full { limit: MOST_TYPES });
+        if number == MOST_TYPES {
+            return Err(AddFault::Full {
+                limit: MOST_TYPES as u32,
+            });
         }
-        if self.maps.push(map).is_err() {
-            return Err(AddFault::Memory);
-        }
+        self.maps.push(map);
         Ok(number as TypeNo)
     }
 
     /// Reads the bytes of page 1. They are the bytes of the catalog that is given, so that to write it gives them back.
-    pub fn decode(alloc: Global, bytes: &[u8; 4096]) -> Result<Catalog, CatalogFault>
+    pub fn decode(_alloc: Global, bytes: &[u8; 4096]) -> Result<Catalog, CatalogFault>
         ensures same { IfOk result (λ catalog. bytes.now ≡ catalog_page catalog) }
         ensures sound { OnOk result (departure bytes.now ≡ None) }
         ensures fault { IfErr result (λ fault. IsCauseOf (departure bytes.now) fault) }
     {
         Ok(Catalog {
-            maps: decode(alloc, bytes)?,
+            maps: decode(bytes)?,
         })
     }
 

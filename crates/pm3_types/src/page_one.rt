@@ -8,10 +8,10 @@ ghost use Rattle.pm3_types.specs.CatalogForm.{departure, head_departure, maps_de
 use crate::bytes::{is_zero, put, u32_at};
 use crate::catalogs::CatalogFault;
 use crate::type_map::{MOST_FIELDS, Tail, TypeMap};
-use std::alloc::Global;
+use arrayvec::ArrayVec;
 
 /// The most types that a catalog may have.
-pub(crate) const MOST_TYPES: u32 = 256;
+pub(crate) const MOST_TYPES: usize = 256;
 
 /// Writes the bytes of page 1 for these maps.
 pub(crate) fn encode(maps: &[TypeMap], out: &mut [u8])
@@ -45,16 +45,15 @@ fn to_bytes(map: TypeMap) -> [u8; 8]
 }
 
 /// The maps whose page 1 this is.
-pub(crate) fn decode(alloc: Global, bytes: &[u8]) -> Result<Vec<TypeMap>, CatalogFault>
+pub(crate) fn decode(bytes: &[u8]) -> Result<ArrayVec<TypeMap, MOST_TYPES>, CatalogFault>
     requires { length bytes.now ≡ 4096 }
     ensures same { IfOk result (λ maps. bytes.now ≡ catalog_page maps.items) }
-    ensures few { IfOk result (λ maps. length maps.items ≤ 256) }
     ensures sound { OnOk result (departure bytes.now ≡ None) }
     ensures fault { IfErr result (λ fault. IsCauseOf (departure bytes.now) fault) }
 {
     let (head, rest) = bytes.split_at(8);
     let count = read_head(head)?;
-    let maps = read_maps(alloc, count, rest)?;
+    let maps = read_maps(count, rest)?;
     Ok(maps)
 }
 
@@ -68,7 +67,7 @@ fn read_head(head: &[u8]) -> Result<u32, CatalogFault>
     ensures fault { IfErr result (λ fault. IsCauseOf (head_departure head.now) fault) }
 {
     let count = u32_at(head, 0);
-    if count > MOST_TYPES {
+    if count > MOST_TYPES as u32 {
         return Err(CatalogFault::Damaged { offset: 0 });
     }
     let (_, gap) = head.split_at(4);
@@ -79,7 +78,7 @@ fn read_head(head: &[u8]) -> Result<u32, CatalogFault>
 }
 
 /// So many maps, from the bytes behind the head.
-fn read_maps(alloc: Global, count: u32, bytes: &[u8]) -> Result<Vec<TypeMap>, CatalogFault>
+fn read_maps(count: u32, bytes: &[u8]) -> Result<ArrayVec<TypeMap, MOST_TYPES>, CatalogFault>
     requires page { length bytes.now ≡ 4088 }
     requires few { count ≤ 256 }
     ensures count { IfOk result (λ maps. length maps.items ≡ count) }
@@ -87,7 +86,7 @@ fn read_maps(alloc: Global, count: u32, bytes: &[u8]) -> Result<Vec<TypeMap>, Ca
     ensures sound { OnOk result (maps_departure count 8 bytes.now ≡ None) }
     ensures fault { IfErr result (λ fault. IsCauseOf (maps_departure count 8 bytes.now) fault) }
 {
-    let mut maps = Vec::new(alloc);
+    let mut maps: ArrayVec<TypeMap, MOST_TYPES> = ArrayVec::new();
     let mut rest = bytes;
     for i in 0..count {
         let (entry, behind) = rest.split_at(8);
@@ -95,9 +94,7 @@ fn read_maps(alloc: Global, count: u32, bytes: &[u8]) -> Result<Vec<TypeMap>, Ca
             Ok(map) => map,
             Err(fault) => return Err(fault),
         };
-        if maps.push(map).is_err() {
-            return Err(CatalogFault::Memory);
-        }
+        maps.push(map);
         rest = behind;
     }
     if !is_zero(rest) {

@@ -69,6 +69,17 @@ impl Model for TypeMap {
     ghost inverse = { λ m. record { count = m.count; refs = m.refs; tail = m.tail } };
 }
 
+impl Default for TypeMap {
+    /// The map of a type without places.
+    fn default() -> TypeMap {
+        TypeMap {
+            count: 0,
+            refs: 0,
+            tail: Tail::Empty,
+        }
+    }
+}
+
 impl TypeMap {
     /// The map with these parts, or None exactly where there are more than 32 fields or a bit at `count` or above is set.
     pub fn new(count: u8, refs: u32, tail: Tail) -> Option<TypeMap>
