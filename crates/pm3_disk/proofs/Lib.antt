@@ -2,6 +2,7 @@ pub mod Contents
 mod Crashed
 pub mod Leaving
 pub mod OnlyReading
+mod Overwriting
 pub mod Passing
 mod Recorded
 mod Tearing

@@ -1,5 +1,5 @@
 -- What calls do to a disk, said of the disk as a whole.
-use Rattle.std.specs.Prelude.{◌≡◌, ℕ, ◌≤◌, List, Result}
+use Rattle.std.specs.Prelude.{◌≡◌, ℕ, ◌≤◌, List, length, option_map, Result}
 use Rattle.pm3_disk.specs.Content.{IfTold, Steps, Unchanged}
 use Rattle.pm3_disk.specs.Faults.{HasCause, Rose}
 use Rattle.pm3_disk.specs.Moments.{After, IsSettled, Passes}
@@ -37,6 +37,18 @@ module _ {D R : Type 0} (g : Ghosts D R) where
   -- an answer is honest: a fault of the disk was counted exactly where it is an error
   abbrev pub IsHonest : {T E : Type 0} → D → D → Result T E → Type 0
   IsHonest old new result = HasCause (g.faults old) (g.faults new) result
+
+  -- the disk has these bytes now, where it tells any
+  abbrev pub Holds : List ℕ → D → D → Type 0
+  Holds bytes old new = g.content new ≡ option_map (λ _. bytes) (g.content old)
+
+  -- it has the bytes that it had
+  abbrev pub IsKept : D → D → Type 0
+  IsKept old new = g.content new ≡ g.content old
+
+  -- there was nothing in it
+  abbrev pub WasEmpty : D → Type 0
+  WasEmpty old = IfTold (g.content old) (λ bytes. length bytes ≡ 0)
 
   -- The disk has the bytes that it had, a crash leaves what one before did, and its count of faults doesn't fall.
   pub record OnlyReads (old new : D) : Type 0 where

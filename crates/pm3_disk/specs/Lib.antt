@@ -6,7 +6,10 @@ pub mod Faults
 pub mod Media
 pub mod Moments
 pub mod Past
+pub mod Paths
 pub mod Plan
+pub mod Printing
 pub mod Reading
 pub mod Recording
 pub mod Replay
+pub mod Systems

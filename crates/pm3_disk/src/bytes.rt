@@ -7,7 +7,7 @@ use std::marker::Model;
 
 /// Bytes on the heap.
 #[derive(Drop)]
-pub struct Bytes {
+pub(crate) struct Bytes {
     items: Vec<u8>,
 }
 
@@ -21,7 +21,7 @@ impl Model for Bytes {
 
 impl Bytes {
     /// A copy.
-    pub fn copy_of(alloc: Global, bytes: &[u8]) -> Result<Bytes, Memory>
+    pub(crate) fn copy_of(alloc: Global, bytes: &[u8]) -> Result<Bytes, Memory>
         ensures { IfOk result (λ copy. copy ≡ bytes.now) }
     {
         let items = Vec::from_slice(alloc, bytes)?;
@@ -29,14 +29,14 @@ impl Bytes {
     }
 
     /// The bytes, taken over without a copy.
-    pub fn of(items: Vec<u8>) -> Bytes
+    pub(crate) fn of(items: Vec<u8>) -> Bytes
         ensures { result ≡ items.items }
     {
         Bytes { items }
     }
 
     /// The bytes.
-    pub fn as_slice(&self) -> &[u8]
+    pub(crate) fn as_slice(&self) -> &[u8]
         ensures { result.now ≡ self.now }
     {
         self.items.as_slice()

@@ -7,7 +7,7 @@ use crate::Memory;
 
 /// Copies the bytes from offset `at` on into the front of `out`, as many as there are and as `out` has, and
 /// answers how many.
-pub fn copy_out(bytes: &[u8], at: u64, out: &mut [u8]) -> usize
+pub(crate) fn copy_out(bytes: &[u8], at: u64, out: &mut [u8]) -> usize
     ensures bound { result ≤ length out.new }
     ensures read { IsRead bytes.now at result out.new }
 {
@@ -51,7 +51,7 @@ fn put(bytes: &mut Vec<u8>, at: usize, part: &[u8])
 
 /// Writes a part over what stands from offset `at` on, and past the end where it reaches there. It takes memory
 /// only where it makes the bytes longer, and changes nothing where there is none.
-pub fn write_over(bytes: &mut Vec<u8>, at: u64, part: &[u8]) -> Result<(), Memory>
+pub(crate) fn write_over(bytes: &mut Vec<u8>, at: u64, part: &[u8]) -> Result<(), Memory>
     ensures written { OnOk result (bytes.new.items ≡ overwrite at part.now bytes.old.items) }
     ensures err { OnErr result (bytes.new.items ≡ bytes.old.items) }
 {
@@ -63,14 +63,14 @@ pub fn write_over(bytes: &mut Vec<u8>, at: u64, part: &[u8]) -> Result<(), Memor
 }
 
 /// Whether a number is in a list.
-pub fn is_listed(numbers: &[u32], number: u64) -> bool
+pub(crate) fn is_listed(numbers: &[u32], number: u64) -> bool
     ensures { IsTrue result ↔ Contains numbers.now number }
 {
     numbers.iter().any(|listed| u64::from(*listed) == number)
 }
 
 /// All bytes, or the first half of them.
-pub fn part_of(bytes: &[u8], whole: bool) -> &[u8]
+pub(crate) fn part_of(bytes: &[u8], whole: bool) -> &[u8]
     ensures { result.now ≡ part_put whole bytes.now }
 {
     if whole {

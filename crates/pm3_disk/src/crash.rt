@@ -18,7 +18,12 @@ struct Replay {
 }
 
 /// The bytes that a crash leaves after these calls, of which the oldest comes first.
-pub fn left_by(alloc: Global, began: &[u8], calls: &[Call], choice: u64) -> Result<Vec<u8>, Memory>
+pub(crate) fn left_by(
+    alloc: Global,
+    began: &[u8],
+    calls: &[Call],
+    choice: u64,
+) -> Result<Vec<u8>, Memory>
     ensures { IfOk result (λ left. left.items ≡ left_after choice began.now (reverse calls.now)) }
 {
     let mut replay = Replay {

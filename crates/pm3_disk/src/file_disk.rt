@@ -5,6 +5,7 @@ use crate::Memory;
 use crate::file_reader::FileReader;
 use crate::link::Link;
 use crate::outside::{Disk, Failed};
+use crate::system::Host;
 use crate::transfer::counted;
 use std::alloc::Global;
 use std::rt::Files;
@@ -12,16 +13,21 @@ use std::rt::Files;
 /// A disk that is a file of the system. It tells no content: what the system does with the bytes is trusted.
 #[derive(Drop)]
 pub struct FileDisk<R: Files + Clone + Drop> {
-    link: Link<R>,
+    link: Link<Host<R>>,
     faults: u64,
 }
 
 impl<R: Files + Clone + Drop> FileDisk<R> {
+    ghost use Rattle.std.specs.Prelude.{◌≡◌, IfOk};
+    ghost use Rattle.pm3_disk.specs.Paths.{path_of};
+
     /// The file at a path. It is opened, or made, at the first call, and a failure to open is a fault of that
     /// call.
-    pub fn at(rt: &R, alloc: Global, path: &str) -> Result<FileDisk<R>, Memory> {
+    pub fn at(rt: &R, alloc: Global, path: &str) -> Result<FileDisk<R>, Memory>
+        ensures { IfOk result (λ disk. path_of disk ≡ path.now) }
+    {
         Ok(FileDisk {
-            link: Link::at(rt, alloc, path)?,
+            link: Link::at(alloc, Host { rt: rt.clone()? }, path)?,
             faults: 0,
         })
     }

@@ -2,18 +2,19 @@
 ghost use Rattle.std.specs.Prelude.{◌≡◌, None};
 
 use crate::outside::{Failed, Reader};
+use crate::system::Handle;
 use crate::transfer::{counted, read_from};
 use std::rt::Files;
 
 /// Reads a file through a handle of its own. It tells no content.
 #[derive(Drop)]
 pub struct FileReader<R: Files> {
-    file: R::File,
+    file: Handle<R::File>,
     faults: u64,
 }
 
 impl<R: Files> FileReader<R> {
-    pub(crate) fn new(file: R::File) -> FileReader<R>
+    pub(crate) fn new(file: Handle<R::File>) -> FileReader<R>
         ensures { result.faults ≡ 0 }
     {
         FileReader { file, faults: 0 }

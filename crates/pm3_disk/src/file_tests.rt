@@ -1,7 +1,7 @@
 //! Files and streams of the system.
-use crate::transfer::{read_from, write_to};
 use crate::{Disk, Failed, FileDisk, Reader, Sink, Source, StdSink, StdSource};
-use std::io::{ErrorKind, Read, Seek, SeekFrom, Write};
+use std::fmt::Display;
+use std::io::ErrorKind;
 use std::rt::Files;
 use std::test::Fail;
 use std::{fs, io};
@@ -90,83 +90,37 @@ fn the_standard_streams_answer(rt: HostRuntime) -> Result<(), Fail> {
     Ok(())
 }
 
-// A file of three bytes that gives and takes one at a time, and is interrupted so often before each.
-#[derive(Drop)]
-struct Slow {
-    bytes: [u8; 3],
-    at: usize,
-    interrupts: u32,
-    left: u32,
-}
+/// A runtime that prints at most three bytes at a time, and keeps none.
+#[derive(Clone, Copy, Drop)]
+struct ThreeAtATime;
 
-impl Slow {
-    fn wait(&mut self) -> io::Result<()> {
-        if self.left == 0 {
-            self.left = self.interrupts;
-            return Ok(());
-        }
-        self.left -= 1;
-        Err(io::Error::from(ErrorKind::Interrupted))
-    }
-}
-
-impl Read for Slow {
-    fn read(&mut self, buf: &mut [u8]) -> io::Result<usize> {
-        self.wait()?;
-        if self.at >= 3 || buf.is_empty() {
-            return Ok(0);
-        }
-        buf[0] = self.bytes[self.at];
-        self.at += 1;
-        Ok(1)
-    }
-}
-
-impl Write for Slow {
-    fn write(&mut self, buf: &[u8]) -> io::Result<usize> {
-        self.wait()?;
-        if self.at >= 3 || buf.is_empty() {
-            return Ok(0);
-        }
-        self.bytes[self.at] = buf[0];
-        self.at += 1;
-        Ok(1)
+impl Print for ThreeAtATime {
+    fn print<D: Display + Drop>(&self, _value: D) -> io::Result<()> {
+        Err(io::Error::from(ErrorKind::Unsupported))
     }
 
-    fn flush(&mut self) -> io::Result<()> {
-        Ok(())
+    fn println<D: Display + Drop>(&self, _value: D) -> io::Result<()> {
+        Err(io::Error::from(ErrorKind::Unsupported))
     }
-}
 
-impl Seek for Slow {
-    fn seek(&mut self, to: SeekFrom) -> io::Result<u64> {
-        let SeekFrom::Start(at) = to else {
+    fn write_all(&self, _bytes: &[u8]) -> io::Result<()> {
+        Err(io::Error::from(ErrorKind::Unsupported))
+    }
+
+    fn write_some(&self, bytes: &[u8]) -> io::Result<usize> {
+        if bytes.len() == 13 {
             return Err(io::Error::from(ErrorKind::Unsupported));
-        };
-        self.at = at as usize;
-        Ok(at)
-    }
-}
-
-fn make_slow(interrupts: u32) -> Slow {
-    Slow {
-        bytes: *b"abc",
-        at: 0,
-        interrupts,
-        left: interrupts,
+        }
+        Ok(bytes.len().min(3))
     }
 }
 
 #[test]
-fn a_transfer_goes_on_where_it_was_cut_short(rt: HostRuntime) -> Result<(), Fail> {
-    let mut file = make_slow(2);
-    let mut out = [0; 4];
-    assert_eq!(rt; read_from(&mut file, 1, &mut out)?, 2);
-    assert_eq!(rt; out, *b"bc\0\0");
-    write_to(&mut file, 0, b"XY")?;
-    assert_eq!(rt; file.bytes, *b"XYc");
-    assert!(rt; write_to(&mut file, 2, b"ZZ").is_err());
-    let mut stuck = make_slow(u32::MAX);
-    assert!(rt; read_from(&mut stuck, 0, &mut out).is_err());
+fn standard_output_is_asked_to_take_each_piece(rt: HostRuntime) -> Result<(), Fail> {
+    let Ok(mut sink) = StdSink::new(&ThreeAtATime) else {
+        return Err("no memory".into());
+    };
+    assert_eq!(rt; sink.write(b"five!"), Ok(3));
+    assert_eq!(rt; sink.write(b"thirteen.byte"), Err(Failed));
     Ok(())
 }

@@ -9,7 +9,7 @@ use std::marker::Model;
 
 /// The calls so far.
 #[derive(Drop)]
-pub struct History {
+pub(crate) struct History {
     calls: Vec<Call>,
 }
 
@@ -26,7 +26,7 @@ impl Model for History {
 
 impl History {
     /// No call yet.
-    pub fn new(alloc: Global) -> History
+    pub(crate) fn new(alloc: Global) -> History
         ensures { result.calls ≡ [] }
     {
         History {
@@ -35,14 +35,14 @@ impl History {
     }
 
     /// How many there are.
-    pub fn len(&self) -> u32
+    pub(crate) fn len(&self) -> u32
         ensures { result ≡ length self.now.calls }
     {
         self.calls.len() as u32
     }
 
     /// The calls up to the one of this number, the oldest first.
-    pub fn up_to(&self, number: u32) -> &[Call]
+    pub(crate) fn up_to(&self, number: u32) -> &[Call]
         requires { number < length self.now.calls }
         ensures { reverse result.now ≡ oldest (number + 1) self.now.calls }
     {
@@ -50,7 +50,7 @@ impl History {
     }
 
     /// Makes room for one call more. It fails where there is no memory for it, and past 2^32 - 1 calls.
-    pub fn reserve(&mut self) -> Result<(), Memory>
+    pub(crate) fn reserve(&mut self) -> Result<(), Memory>
         ensures calls { self.new.calls ≡ self.old.calls }
         ensures room { OnOk result (0 < self.new.room) }
     {
@@ -62,7 +62,7 @@ impl History {
     }
 
     /// Adds a call.
-    pub fn add(&mut self, call: Call)
+    pub(crate) fn add(&mut self, call: Call)
         requires { 0 < self.old.room }
         ensures { self.new.calls ≡ call ∷ self.old.calls }
     {

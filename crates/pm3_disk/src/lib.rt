@@ -35,6 +35,9 @@ mod link;
 mod memory_tests;
 mod std_sink;
 mod std_source;
+mod system;
+#[cfg(test)]
+mod system_tests;
 mod transfer;
 mod want;
 

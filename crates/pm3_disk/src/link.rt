@@ -1,40 +1,37 @@
 //! A path, and the file that it leads to.
-ghost use Rattle.std.specs.Prelude.{◌≤◌, length, IfOk};
+ghost use Rattle.std.specs.Prelude.{◌≡◌, ◌≤◌, length, string_bytes, IfOk};
 
 use crate::Memory;
+use crate::system::{System, SystemFile};
 use crate::transfer::{read_from, write_to};
 use std::alloc::Global;
-use std::fs::{File, OpenFile, OpenOptions};
 use std::io;
 use std::path::Path;
-use std::rt::Files;
 
-/// A file that is opened, or made, at the first call.
+/// A file of a system that is opened, or made, at the first call.
 #[derive(Drop)]
-pub struct Link<R: Files + Clone + Drop> {
-    rt: R,
-    path: String,
-    file: Option<R::File>,
+pub(crate) struct Link<S: System + Drop> {
+    pub(crate) system: S,
+    pub(crate) path: String,
+    pub(crate) file: Option<S::File>,
     is_in_folder: bool,
 }
 
-impl<R: Files + Clone + Drop> Link<R> {
-    pub fn at(rt: &R, alloc: Global, path: &str) -> Result<Link<R>, Memory> {
+impl<S: System + Drop> Link<S> {
+    pub(crate) fn at(alloc: Global, system: S, path: &str) -> Result<Link<S>, Memory>
+        ensures { IfOk result (λ link. string_bytes link.path ≡ path.now) }
+    {
         Ok(Link {
-            rt: rt.clone()?,
+            system,
             path: String::from_str(alloc, path)?,
             file: None,
             is_in_folder: false,
         })
     }
 
-    fn open(&mut self) -> io::Result<&mut R::File> {
+    fn open(&mut self) -> io::Result<&mut S::File> {
         if self.file.is_none() {
-            let file = OpenOptions::new()
-                .read(true)
-                .write(true)
-                .create(true)
-                .open(&self.rt, self.path.as_str())?;
+            let file = self.system.open(self.path.as_str())?;
             self.file = Some(file);
         }
         match &mut self.file {
@@ -43,44 +40,45 @@ impl<R: Files + Clone + Drop> Link<R> {
         }
     }
 
-    pub fn len(&mut self) -> io::Result<u64> {
-        Ok(self.open()?.metadata()?.len())
+    pub(crate) fn len(&mut self) -> io::Result<u64> {
+        self.open()?.size()
     }
 
-    pub fn read_at(&mut self, at: u64, out: &mut [u8]) -> io::Result<usize>
+    pub(crate) fn read_at(&mut self, at: u64, out: &mut [u8]) -> io::Result<usize>
         ensures { IfOk result (λ count. count ≤ length out.new) }
     {
         read_from(self.open()?, at, out)
     }
 
-    pub fn write_at(&mut self, at: u64, bytes: &[u8]) -> io::Result<()> {
+    pub(crate) fn write_at(&mut self, at: u64, bytes: &[u8]) -> io::Result<()> {
         write_to(self.open()?, at, bytes)
     }
 
     /// Shortens a longer file, and leaves a shorter one as it is.
-    pub fn cut(&mut self, len: u64) -> io::Result<()> {
+    pub(crate) fn cut(&mut self, len: u64) -> io::Result<()> {
         let file = self.open()?;
-        if file.metadata()?.len() > len {
-            file.set_len(len)?;
+        if file.size()? > len {
+            file.resize(len)?;
         }
         Ok(())
     }
 
-    /// Waits until the file's bytes and length are on the disk, and the first time also its entry in its folder.
-    pub fn sync(&mut self) -> io::Result<()> {
-        self.open()?.sync_all()?;
+    /// Waits until the file's bytes and length are on the disk, and the first time also its entry in its folder: else
+    /// a crash could leave the disk without the file's name.
+    pub(crate) fn sync(&mut self) -> io::Result<()> {
+        self.open()?.sync()?;
         if !self.is_in_folder {
             let folder = folder_of(self.path.as_str());
-            File::open(&self.rt, folder)?.sync_all()?;
+            self.system.open_to_read(folder.as_str())?.sync()?;
             self.is_in_folder = true;
         }
         Ok(())
     }
 
     /// A second handle of the file, for reading.
-    pub fn second(&mut self) -> io::Result<R::File> {
+    pub(crate) fn second(&mut self) -> io::Result<S::File> {
         self.open()?;
-        File::open(&self.rt, self.path.as_str())
+        self.system.open_to_read(self.path.as_str())
     }
 }
 

@@ -10,7 +10,7 @@ use std::marker::Model;
 
 /// The bytes as they are, and as they were at first. These are copied before the first change, and no earlier.
 #[derive(Drop)]
-pub struct Medium {
+pub(crate) struct Medium {
     alloc: Global,
     began: Option<Bytes>,
     present: Vec<u8>,
@@ -27,7 +27,7 @@ impl Model for Medium {
 
 impl Medium {
     /// Bytes that no call has changed.
-    pub fn new(alloc: Global, content: Vec<u8>) -> Medium
+    pub(crate) fn new(alloc: Global, content: Vec<u8>) -> Medium
         ensures { result ≡ record { began = content.items; present = content.items } }
     {
         Medium {
@@ -38,14 +38,14 @@ impl Medium {
     }
 
     /// The bytes as they are.
-    pub fn bytes(&self) -> &[u8]
+    pub(crate) fn bytes(&self) -> &[u8]
         ensures { result.now ≡ self.now.present }
     {
         self.present.as_slice()
     }
 
     /// The bytes as they were at first.
-    pub fn began(&self) -> &[u8]
+    pub(crate) fn began(&self) -> &[u8]
         ensures { result.now ≡ self.now.began }
     {
         match &self.began {
@@ -55,7 +55,7 @@ impl Medium {
     }
 
     /// Writes a part over what stands from offset `at` on, and past the end where it reaches there.
-    pub fn write(&mut self, at: u64, part: &[u8]) -> Result<(), Memory>
+    pub(crate) fn write(&mut self, at: u64, part: &[u8]) -> Result<(), Memory>
         ensures written { OnOk result (self.new ≡ record self.old { present = overwrite at part.now self.old.present }) }
         ensures err { OnErr result (self.new ≡ self.old) }
     {
@@ -64,7 +64,7 @@ impl Medium {
     }
 
     /// Leaves the first `len` bytes, or all where there are no more.
-    pub fn cut(&mut self, len: u64) -> Result<(), Memory>
+    pub(crate) fn cut(&mut self, len: u64) -> Result<(), Memory>
         ensures cut { OnOk result (self.new ≡ record self.old { present = take len self.old.present }) }
         ensures err { OnErr result (self.new ≡ self.old) }
     {

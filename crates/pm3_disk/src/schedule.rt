@@ -8,7 +8,7 @@ use std::marker::Model;
 
 /// Numbers the calls of a device, lets those fail whose numbers are in a list, and counts the faults.
 #[derive(Drop)]
-pub struct Schedule {
+pub(crate) struct Schedule {
     fails: Vec<u32>,
     next: u64,
     faults: u64,
@@ -24,7 +24,7 @@ impl Model for Schedule {
 
 impl Schedule {
     /// The first call has the number `next`.
-    pub fn new(fails: Vec<u32>, next: u32) -> Schedule
+    pub(crate) fn new(fails: Vec<u32>, next: u32) -> Schedule
         ensures { result ≡ record { fails = fails.items; next = next; faults = 0 } }
     {
         Schedule {
@@ -35,7 +35,7 @@ impl Schedule {
     }
 
     /// A call: takes the next number, and fails where it is in the list.
-    pub fn turn(&mut self) -> Result<(), Failed>
+    pub(crate) fn turn(&mut self) -> Result<(), Failed>
         ensures call { GoesBy self.old self.new result }
         ensures later { self.old.faults ≤ self.new.faults }
     {
@@ -49,7 +49,7 @@ impl Schedule {
     }
 
     /// Counts a fault of a call that has no number.
-    pub fn blame(&mut self)
+    pub(crate) fn blame(&mut self)
         ensures blamed { self.new ≡ blamed self.old }
         ensures later { self.old.faults ≤ self.new.faults }
     {
@@ -57,14 +57,14 @@ impl Schedule {
     }
 
     /// How many calls have a number, or 2^32 - 1 where there are more.
-    pub fn calls(&self) -> u32
+    pub(crate) fn calls(&self) -> u32
         ensures { result ≡ min self.now.next (2 ^ 32 - 1) }
     {
         u32::try_from(self.next).unwrap_or(u32::MAX)
     }
 
     /// How many calls have failed.
-    pub fn faults(&self) -> u64
+    pub(crate) fn faults(&self) -> u64
         ensures { result ≡ self.now.faults }
     {
         self.faults

@@ -3,6 +3,7 @@ ghost use Rattle.std.specs.Prelude.{None};
 
 use crate::Memory;
 use crate::outside::{Failed, Sink};
+use crate::system::Handle;
 use crate::transfer::{counted, write_some};
 use std::io;
 
@@ -29,7 +30,10 @@ impl<R: Print + Clone + Drop> Sink for StdSink<R> {
     ghost faults = { λ s. s.faults };
 
     fn write(&mut self, bytes: &[u8]) -> Result<usize, Failed> {
-        let answer = write_some(&mut io::writer(&self.rt), bytes);
+        let mut out = Handle {
+            inner: io::writer(&self.rt),
+        };
+        let answer = write_some(&mut out, bytes);
         counted(&mut self.faults, answer)
     }
 }

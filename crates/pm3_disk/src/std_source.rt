@@ -3,6 +3,7 @@ ghost use Rattle.std.specs.Prelude.{None};
 
 use crate::Memory;
 use crate::outside::{Failed, Source};
+use crate::system::Handle;
 use crate::transfer::{counted, read_some};
 
 /// Standard input, read in pieces as large as its caller asks for. It tells no content.
@@ -28,7 +29,10 @@ impl<R: Input + Clone + Drop> Source for StdSource<R> {
     ghost faults = { λ s. s.faults };
 
     fn read(&mut self, out: &mut [u8]) -> Result<usize, Failed> {
-        let answer = read_some(&mut self.rt.reader(), out);
+        let mut input = Handle {
+            inner: self.rt.reader(),
+        };
+        let answer = read_some(&mut input, out);
         counted(&mut self.faults, answer)
     }
 }

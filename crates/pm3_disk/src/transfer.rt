@@ -1,16 +1,18 @@
 //! Reads and writes that go on where the system stops short.
-ghost use Rattle.std.specs.Prelude.{◌≡◌, ◌<◌, ◌≤◌, length, IfOk, IsErr, Ok, MatchResult};
+ghost use Rattle.std.specs.Prelude.{◌≡◌, ◌<◌, ◌≤◌, length, take, IfOk, IsErr, OnOk, Ok, MatchResult};
 ghost use Rattle.pm3_disk.specs.Faults.{HasCause};
+ghost use Rattle.pm3_disk.specs.Systems.{Puts, Writes};
 
 use crate::outside::Failed;
+use crate::system::{Giver, SystemFile, Taker};
 use std::io;
-use std::io::{ErrorKind, Read, Seek, SeekFrom, Write};
+use std::io::ErrorKind;
 
 // How often a call that the system interrupts is tried.
 const TRIES: u32 = 1000;
 
 /// Counts an error as a fault.
-pub fn counted<T>(faults: &mut u64, answer: io::Result<T>) -> Result<T, Failed>
+pub(crate) fn counted<T>(faults: &mut u64, answer: io::Result<T>) -> Result<T, Failed>
     ensures cause { HasCause faults.old faults.new result }
     ensures answer { MatchResult answer (λ value. result ≡ Ok value) (λ _. IsErr result) }
 {
@@ -24,7 +26,7 @@ pub fn counted<T>(faults: &mut u64, answer: io::Result<T>) -> Result<T, Failed>
 }
 
 /// One read, tried again where it is interrupted.
-pub fn read_some<F: Read>(from: &mut F, out: &mut [u8]) -> io::Result<usize>
+pub(crate) fn read_some<F: Giver>(from: &mut F, out: &mut [u8]) -> io::Result<usize>
     ensures { IfOk result (λ count. count ≤ length out.new) }
 {
     for _ in 0..TRIES {
@@ -38,9 +40,10 @@ pub fn read_some<F: Read>(from: &mut F, out: &mut [u8]) -> io::Result<usize>
 }
 
 /// One write, tried again where it is interrupted. It takes at least one byte of a piece that has any.
-pub fn write_some<F: Write>(to: &mut F, bytes: &[u8]) -> io::Result<usize>
+pub(crate) fn write_some<F: Taker>(to: &mut F, bytes: &[u8]) -> io::Result<usize>
     ensures bound { IfOk result (λ count. count ≤ length bytes.now) }
     ensures some { IfOk result (λ count. 0 < length bytes.now → 0 < count) }
+    ensures put { IfOk result (λ count. Puts (take count bytes.now) (F.seen to.old) (F.seen to.new)) }
 {
     for _ in 0..TRIES {
         match to.write(bytes) {
@@ -54,10 +57,10 @@ pub fn write_some<F: Write>(to: &mut F, bytes: &[u8]) -> io::Result<usize>
 }
 
 /// Reads from offset `at` on until `out` is full or the end is there, and answers how many bytes.
-pub fn read_from<F: Read + Seek>(file: &mut F, at: u64, out: &mut [u8]) -> io::Result<usize>
+pub(crate) fn read_from<F: SystemFile>(file: &mut F, at: u64, out: &mut [u8]) -> io::Result<usize>
     ensures { IfOk result (λ count. count ≤ length out.new) }
 {
-    file.seek(SeekFrom::Start(at))?;
+    file.seek(at)?;
     let mut done = 0;
     while done < out.len() {
         let count = read_some(file, &mut out[done..])?;
@@ -69,13 +72,15 @@ pub fn read_from<F: Read + Seek>(file: &mut F, at: u64, out: &mut [u8]) -> io::R
     Ok(done)
 }
 
-/// Writes all bytes from offset `at` on.
-pub fn write_to<F: Write + Seek>(file: &mut F, at: u64, bytes: &[u8]) -> io::Result<()> {
-    file.seek(SeekFrom::Start(at))?;
-    let mut rest = bytes;
-    while !rest.is_empty() {
-        let count = write_some(file, rest)?;
-        rest = &rest[count..];
+/// Writes all bytes from offset `at` on, which isn't past the file's end.
+pub(crate) fn write_to<F: SystemFile>(file: &mut F, at: u64, bytes: &[u8]) -> io::Result<()>
+    ensures { OnOk result (Writes at bytes.now (F.Taker.seen file.old) (F.Taker.seen file.new)) }
+{
+    file.seek(at)?;
+    let mut done = 0;
+    while done < bytes.len() {
+        let (_, rest) = bytes.split_at(done);
+        done += write_some(file, rest)?;
     }
     Ok(())
 }
