@@ -1,3 +1,4 @@
+//! Records as the plain heap keeps them.
 ghost use Rattle.std.specs.Prelude.{◌≡◌, ◌<◌, ◌≤◌, IfOk, IsTrue, length, replicate, true};
 ghost use Rattle.pm3_types.specs.Record.{blank};
 ghost use Rattle.pm3_types.specs.Fields.{is_reference};

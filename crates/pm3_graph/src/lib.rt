@@ -6,14 +6,17 @@
 //! answer, on the whole graph, and so is a run of operations: `frame` and `frame_of_runs` are these laws.
 #![tactic(auto)]
 
-mod kept;
-mod law;
+// Operations, and laws of the steps that they are.
+mod laws;
 mod operations;
+
+// The plain heap.
+mod kept;
 mod plain;
 mod records;
 #[cfg(test)]
 mod tests;
 
-pub use law::{frame, frame_of_runs, kept_by_steps, written_places};
+pub use laws::{frame, frame_of_runs, kept_by_steps, written_places};
 pub use operations::{Op, PlainFault};
 pub use plain::Plain;

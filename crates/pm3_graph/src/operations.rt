@@ -1,7 +1,9 @@
+//! Operations, and why one is no step.
 ghost use Rattle.std.specs.Prelude.{◌^◌, ◌<◌, ◌↔◌, IsTrue, slice_get};
 ghost use Rattle.pm3_graph.specs.Operation.{IsTailOf};
 
 use pm3_types::{Catalog, Tail, TypeNo};
+use thiserror::Error;
 
 /// The first number that is no name.
 const NAMES_END: u64 = 1 << 62;
@@ -66,14 +68,18 @@ fn may_have_tail(catalog: &Catalog, ty: TypeNo, tail: u32) -> bool
 }
 
 /// Why an operation is no step. Where several apply, the first in this order is given.
-#[derive(Clone, Copy, Debug, PartialEq, Eq)]
+#[derive(Clone, Copy, Debug, PartialEq, Eq, Error)]
 pub enum PlainFault {
     /// A record of this name is there already, or the name is 0.
+    #[error("the name {name} is taken")]
     Taken { name: u64 },
     /// There is no record of this name.
+    #[error("there is no record {name}")]
     NoRecord { name: u64 },
     /// The record has no such place, or the type is not in the catalog.
+    #[error("there is no such place")]
     NoPlace,
     /// Want of memory.
+    #[error("out of memory")]
     Memory,
 }

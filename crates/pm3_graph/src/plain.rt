@@ -1,3 +1,4 @@
+//! The plain heap.
 ghost use Rattle.std.specs.Prelude.{◌≡◌, ◌≢◌, ◌⊎◌, Ok, Err, IfOk, IfErr, OnErr, IsErrOf, MatchResult};
 ghost use Rattle.std.specs.FinMap.{get};
 ghost use Rattle.pm3_graph.specs.Operation.{IsAllowed, TakesMemory, outcome, read_of, write_of, new_of, unless_taken, empty_graph};

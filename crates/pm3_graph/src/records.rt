@@ -1,3 +1,4 @@
+//! The records of the plain heap by their names.
 ghost use Rattle.std.specs.Prelude.{◌≡◌, ℕ, Some, true, OnOk, OnErr, IfNone, IfSome};
 ghost use Rattle.std.specs.Option.{option_copied};
 ghost use Rattle.std.specs.FinMap.{get, insert, empty};

@@ -14,4 +14,5 @@ pub mod PageReads
 pub mod WordBytes
 pub mod ReferencePairs
 pub mod FileForms
+pub mod Faulty
 pub mod SameBits

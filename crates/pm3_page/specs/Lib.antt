@@ -9,5 +9,7 @@ pub mod References
 pub mod Roles
 pub mod Scan
 pub mod PageBytes
+pub mod FormLaws
+pub mod HomeLaws
 pub mod Faults
 pub mod Head

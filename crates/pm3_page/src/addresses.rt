@@ -10,6 +10,9 @@ pub type PageNo = u32;
 /// An address: `BASE`, 4096 for each page before the address's own, and the byte within that page.
 pub type Addr = u64;
 
+/// The number of pages that a store may have.
+pub(crate) const MOST_PAGES: PageNo = 16384;
+
 /// The page of the roots.
 pub(crate) const ROOTS_PAGE: PageNo = 2;
 

@@ -17,28 +17,28 @@ mod start_bits;
 
 // Their form in a file.
 mod conversion;
-mod law;
 mod page_file;
 mod references;
 mod roles;
 mod steps;
 
 // Collections of images and of page numbers, and what page 0 says.
-mod at_home;
 mod bits;
 #[cfg(test)]
 mod collection_tests;
 mod marks;
 mod page_set;
 mod pages;
-mod places;
+mod slots;
+
+// Laws of both.
+mod laws;
 #[cfg(test)]
 mod tests;
 
 pub use addresses::{Addr, PageNo};
-pub use at_home::images_stay_at_home;
 pub use images::Image;
-pub use law::page_form_law;
+pub use laws::{images_stay_at_home, page_form_law};
 pub use marks::Marks;
 pub use page_file::ImageFault;
 pub use page_set::PageSet;

@@ -1,3 +1,4 @@
+//! What page 0 says of a store.
 /// What the first page of a store's page file says beside its types.
 #[derive(Clone, Copy, Debug, PartialEq, Eq)]
 pub struct Marks {

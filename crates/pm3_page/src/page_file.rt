@@ -14,13 +14,16 @@ use byteorder::{ByteOrder, LittleEndian};
 use pm3_core::BASE;
 use pm3_types::Catalog;
 use std::alloc::Global;
+use thiserror::Error;
 
 /// Why a page of a file gives no image.
-#[derive(Clone, Copy, Debug, PartialEq, Eq)]
+#[derive(Clone, Copy, Debug, PartialEq, Eq, Error)]
 pub enum ImageFault {
     /// The page departs from its form, first at this word.
+    #[error("page {page} is damaged at its word {word}")]
     Damaged { page: PageNo, word: u32 },
     /// Want of memory.
+    #[error("out of memory")]
     Memory,
 }
 

@@ -1,3 +1,4 @@
+//! Images of pages, each under its page number.
 ghost use Rattle.std.specs.Prelude.{◌≡◌, ◌+◌, ◌<◌, ◌≤◌, ◌↔◌, max, IsTrue, IfSome, OnOk, OnErr, is_some, if◌then◌else◌};
 ghost use Rattle.std.specs.Option.{option_copied, option_copied_mut};
 ghost use Rattle.std.specs.Borrow.{sem};
@@ -6,7 +7,7 @@ ghost use Rattle.pm3_page.specs.Next.{IsNext};
 
 use crate::addresses::PageNo;
 use crate::images::Image;
-use crate::places::Places;
+use crate::slots::Slots;
 use pm3_types::Memory;
 use std::alloc::Global;
 use std::marker::Model;
@@ -14,7 +15,7 @@ use std::marker::Model;
 /// Images of pages, each under the number of its page, and room for further ones.
 #[derive(Debug, Drop)]
 pub struct Pages {
-    places: Places,
+    slots: Slots,
     images: Vec<Image>,
     spare: usize,
 }
@@ -27,9 +28,9 @@ impl Model for Pages {
 
     ghost coded = { page_map_code };
 
-    ghost view = { λ p. record { images = images_of p.places.slots.items p.images.items; spare = p.spare } };
+    ghost view = { λ p. record { images = images_of p.slots.by_page.items p.images.items; spare = p.spare } };
 
-    ghost invariant = { λ p. IsStored p.places p.images p.spare };
+    ghost invariant = { λ p. IsStored p.slots p.images p.spare };
 }
 
 impl Pages {
@@ -41,7 +42,7 @@ impl Pages {
         ensures spare { result.spare ≡ 0 }
     {
         Pages {
-            places: Places::new(alloc),
+            slots: Slots::new(alloc),
             images: Vec::new(alloc),
             spare: 0,
         }
@@ -79,7 +80,7 @@ impl Pages {
         if more <= self.spare {
             return Ok(());
         }
-        let Ok(()) = self.places.reserve(more) else {
+        let Ok(()) = self.slots.reserve(more) else {
             return Err(Memory);
         };
         let Ok(()) = self.images.reserve(more) else {
@@ -97,7 +98,7 @@ impl Pages {
         ensures spare { self.new.spare + 1 ≡ self.old.spare }
     {
         let page = image.page();
-        self.places.put(page);
+        self.slots.put(page);
         let Ok(()) = self.images.push(image) else {
             unreachable!()
         };
@@ -108,7 +109,7 @@ impl Pages {
     pub fn get(&self, page: PageNo) -> Option<&Image>
         ensures { option_copied result ≡ map.get self.now.images page }
     {
-        self.images.get(self.places.slot(page))
+        self.images.get(self.slots.slot(page))
     }
 
     /// The image of a page to write to, or None exactly where it isn't there. What is left behind the reference is then the page's image.
@@ -116,7 +117,7 @@ impl Pages {
         ensures* writes_back { sem 𝓛 (lends_image self.entry page result) }
         ensures value { option_copied_mut result ≡ map.get self.old.images page }
     {
-        let slot = self.places.slot(page);
+        let slot = self.slots.slot(page);
         self.images.get_mut(slot)
     }
 
@@ -126,11 +127,11 @@ impl Pages {
         ensures images { self.new.images ≡ map.remove self.old.images page }
         ensures spare { self.new.spare ≡ self.old.spare + (if is_some result then 1 else 0) }
     {
-        let slot = self.places.slot(page);
+        let slot = self.slots.slot(page);
         if slot >= self.images.len() {
             return None;
         }
-        self.places.take(page, slot);
+        self.slots.take(page, slot);
         self.spare += 1;
         Some(self.images.swap_remove(slot))
     }
@@ -140,6 +141,6 @@ impl Pages {
         ensures next { IsNext (map.contains_key self.now.images) start result }
         ensures within { IfSome result (λ page. page < 16384) }
     {
-        self.places.next(start)
+        self.slots.next(start)
     }
 }

@@ -4,11 +4,8 @@ ghost use Rattle.pm3_types.specs.Layout.{is_address, page_in, word_in};
 ghost use Rattle.pm3_types.specs.PageForm.{is_file_reference, is_memory_reference, memory_reference, file_reference};
 ghost use Rattle.pm3_page.specs.References.{refer_by};
 
-use crate::addresses::{Addr, is_word, page_within, word_within};
+use crate::addresses::{Addr, MOST_PAGES, is_word, page_within, word_within};
 use pm3_core::{BASE, PAGE_BYTES};
-
-/// The most pages of a store.
-const MOST_PAGES: u32 = 16384;
 
 /// From which form words go to the other.
 #[derive(Clone, Copy, Debug)]

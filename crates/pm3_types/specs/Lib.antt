@@ -15,4 +15,5 @@ pub mod Tried
 pub mod Layout
 pub mod PageForm
 pub mod Shown
+pub mod ImageLaws
 pub mod Objects

@@ -1,3 +1,4 @@
+//! Catalogs: the types of a store.
 ghost use Rattle.std.specs.Prelude.{◌≡◌, ◌↔◌, ◌⊎◌, ◌≤◌, [], ◌∷◌, ◌++◌, length, IfOk, OnOk, IfErr, OnErr, IsErrOf, IsTrue, None, slice_get};
 ghost use Rattle.pm3_types.specs.PageOne.{catalog_page};
 ghost use Rattle.pm3_types.specs.CatalogForm.{departure, IsCauseOf};
@@ -7,22 +8,27 @@ use crate::type_map::{TypeMap, TypeNo};
 use arrayvec::ArrayVec;
 use std::alloc::Global;
 use std::marker::Model;
+use thiserror::Error;
 
 /// Why a catalog did not take a map.
-#[derive(Clone, Copy, Debug, PartialEq, Eq)]
+#[derive(Clone, Copy, Debug, PartialEq, Eq, Error)]
 pub enum AddFault {
     /// It has `limit` maps already, the most that it may have.
+    #[error("the catalog has {limit} types already")]
     Full { limit: u32 },
     /// Want of memory, which a catalog in place never has.
+    #[error("out of memory")]
     Memory,
 }
 
 /// Why the bytes of a page are no catalog.
-#[derive(Clone, Copy, Debug, PartialEq, Eq)]
+#[derive(Clone, Copy, Debug, PartialEq, Eq, Error)]
 pub enum CatalogFault {
     /// The field that begins at byte `offset` of the page is the first that departs from the form.
+    #[error("the catalog is damaged at byte {offset} of its page")]
     Damaged { offset: u32 },
     /// Want of memory, which a catalog in place never has.
+    #[error("out of memory")]
     Memory,
 }
 

@@ -5,7 +5,7 @@
 //! that list (`catalog_page` of specs/): `Catalog::encode_into` writes exactly them, and `Catalog::decode` reads them
 //! back, or names the first field that departs. The definitions by which the crates above speak of records, parts of
 //! graphs, whole graphs and what is reached, of the words of pages and of what images show, stand in specs/, with
-//! their laws in the functions of `laws` and `image_law`.
+//! their laws in the functions of `laws`.
 #![tactic(auto)]
 
 // Bytes of files.
@@ -18,7 +18,6 @@ mod shortage;
 mod type_map;
 
 // The places of records, and laws of the definitions.
-mod image_law;
 mod laws;
 mod places;
 #[cfg(test)]
@@ -26,8 +25,9 @@ mod tests;
 
 pub use bytes::{has_zeros, is_zero, put, u32_at, u32_field, u64_at, u64_field};
 pub use catalogs::{AddFault, Catalog, CatalogFault};
-pub use image_law::{placing_law, shown_law, starts_law, write_law};
-pub use laws::{dumps, numberings, pages, reached_names};
+pub use laws::{
+    dumps, numberings, pages, placing_law, reached_names, shown_law, starts_law, write_law,
+};
 pub use places::Place;
 pub use shortage::Memory;
 pub use type_map::{Tail, TypeMap, TypeNo};

@@ -1,3 +1,4 @@
+//! Places of records.
 /// A place of a record, told by what stands in it.
 #[derive(Clone, Copy, Debug, PartialEq, Eq)]
 pub enum Place {

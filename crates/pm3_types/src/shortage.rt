@@ -1,3 +1,8 @@
+//! Want of memory.
+
+use thiserror::Error;
+
 /// Want of memory: an allocation was refused.
-#[derive(Clone, Copy, Debug, PartialEq, Eq)]
+#[derive(Clone, Copy, Debug, PartialEq, Eq, Error)]
+#[error("out of memory")]
 pub struct Memory;

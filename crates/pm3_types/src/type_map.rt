@@ -1,3 +1,4 @@
+//! Type maps: the places that the records of a type have.
 ghost use Rattle.std.specs.Prelude.{◌≡◌, ◌^◌, ◌<◌, ◌≤◌, ◌↔◌, ◌⊎◌, ℕ, IsNone, IfSome, false};
 ghost use Rattle.pm3_types.specs.Fields.{is_reference, tail_code};
 

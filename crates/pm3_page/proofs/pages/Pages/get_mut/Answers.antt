@@ -19,18 +19,18 @@ lent (Some x) F G v w written same = λ i. inl (x.ghost_name, λ image. written 
 
 pub returns : goal.returns
 returns c =
-    let few = few_images c.self.inside.places.slots.items c.self.inside.places.homes.items c.self.inside.places.held.words.items c.self.inside.images.items c.self.invariant.index c.self.invariant.as_many in
-    let view : images_of c.self.inside.places.slots.items c.self.inside.images.items ≡ c.args.self.now.images = ap (λ (m : PageMap). m.images) c.self.view_is in
+    let few = few_images c.self.inside.slots.by_page.items c.self.inside.slots.homes.items c.self.inside.slots.held.words.items c.self.inside.images.items c.self.invariant.index c.self.invariant.as_many in
+    let view : images_of c.self.inside.slots.by_page.items c.self.inside.images.items ≡ c.args.self.now.images = ap (λ (m : PageMap). m.images) c.self.view_is in
     let len : vec_len c.self.inside.images ≡ length c.self.inside.images.items = search rules in
     let copied : option_copied_mut c.get_mut.result ≡ slice_get c.self.inside.images.items c.slot-slot.result =
     copied_get_mut c.get_mut.result c.self.inside.images.items c.slot-slot.result (λ there. let lt = c.get_mut.ensures.variant.0 there in omega arith) (λ lt. c.get_mut.ensures.variant.1 (omega arith)) c.get_mut.ensures.value in
-    let written : (image : PageImage) → slot_of c.self.inside.places.slots.items c.args.page < length c.self.inside.images.items → images_of c.self.inside.places.slots.items (set c.self.inside.images.items c.slot-slot.result image) ≡ map.insert c.args.self.now.images c.args.page image =
-    λ image lt. ap (λ (i : ℕ). images_of c.self.inside.places.slots.items (set c.self.inside.images.items i image)) c.slot-slot.ensures
-    ∙ images_set c.self.inside.places.slots.items c.self.inside.places.homes.items c.self.inside.places.held.words.items c.self.inside.images.items c.self.invariant.index c.self.invariant.as_many c.args.page image lt ∙ ap (λ m. map.insert m c.args.page image) view in (
+    let written : (image : PageImage) → slot_of c.self.inside.slots.by_page.items c.args.page < length c.self.inside.images.items → images_of c.self.inside.slots.by_page.items (set c.self.inside.images.items c.slot-slot.result image) ≡ map.insert c.args.self.now.images c.args.page image =
+    λ image lt. ap (λ (i : ℕ). images_of c.self.inside.slots.by_page.items (set c.self.inside.images.items i image)) c.slot-slot.ensures
+    ∙ images_set c.self.inside.slots.by_page.items c.self.inside.slots.homes.items c.self.inside.slots.held.words.items c.self.inside.images.items c.self.invariant.index c.self.invariant.as_many c.args.page image lt ∙ ap (λ m. map.insert m c.args.page image) view in (
       lent c.get_mut.result _ (with_image c.args.self.now c.args.page) _ c.args.self.now
           (λ there w i. record { images = written w (omega (arith, c.get_mut.ensures.variant.0 there, c.slot-slot.ensures)) i; spare = (c.self.view_is i).spare }) c.self.view_is,
       record {
         writes_back = tt;
-        value = copied ∙ ap (slice_get c.self.inside.images.items) c.slot-slot.ensures ∙ sym (get-images_of c.self.inside.places.slots.items c.self.inside.images.items c.args.page (omega arith)) ∙ ap (λ m. map.get m c.args.page) view;
+        value = copied ∙ ap (slice_get c.self.inside.images.items) c.slot-slot.ensures ∙ sym (get-images_of c.self.inside.slots.by_page.items c.self.inside.images.items c.args.page (omega arith)) ∙ ap (λ m. map.get m c.args.page) view;
       },
     )

@@ -9,10 +9,10 @@ use Rattle.pm3_page.proofs.pages.Pages.is_empty.Goals as goal
 
 pub returns : goal.returns
 returns c =
-    let few = few_images c.self.inside.places.slots.items c.self.inside.places.homes.items c.self.inside.places.held.words.items c.self.inside.images.items c.self.invariant.index c.self.invariant.as_many in
-    let view : images_of c.self.inside.places.slots.items c.self.inside.images.items ≡ c.args.self.now.images = ap (λ (m : PageMap). m.images) c.self.view_is in
+    let few = few_images c.self.inside.slots.by_page.items c.self.inside.slots.homes.items c.self.inside.slots.held.words.items c.self.inside.images.items c.self.invariant.index c.self.invariant.as_many in
+    let view : images_of c.self.inside.slots.by_page.items c.self.inside.images.items ≡ c.args.self.now.images = ap (λ (m : PageMap). m.images) c.self.view_is in
     let len : vec_len c.self.inside.images ≡ length c.self.inside.images.items = search rules in
-    let number : map.len c.args.self.now.images ≡ length c.self.inside.images.items = ap map.len (sym view) ∙ len-images_of c.self.inside.places.slots.items c.self.inside.places.homes.items c.self.inside.places.held.words.items c.self.inside.images.items c.self.invariant.index c.self.invariant.as_many in
+    let number : map.len c.args.self.now.images ≡ length c.self.inside.images.items = ap map.len (sym view) ∙ len-images_of c.self.inside.slots.by_page.items c.self.inside.slots.homes.items c.self.inside.slots.held.words.items c.self.inside.images.items c.self.invariant.index c.self.invariant.as_many in
     let is : c.is_empty.result ≡ eqb (length c.self.inside.images.items) 0 = c.is_empty.ensures ∙ ap (λ (n : ℕ). eqb n 0) len in (
       λ none. map.empty_of_len c.args.self.now.images (number ∙ eqb-true (length c.self.inside.images.items) 0 (sym is ∙ none)),
       λ empty. is ∙ eq-eqb (length c.self.inside.images.items) 0 (sym number ∙ ap map.len empty ∙ map.len-empty nat_cmp PageImage),

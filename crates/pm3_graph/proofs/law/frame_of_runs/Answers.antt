@@ -1,5 +1,0 @@
-use Rattle.pm3_graph.proofs.Framing.{frame_of_runs}
-use Rattle.pm3_graph.proofs.law.frame_of_runs.Goals as goal
-
-pub returns : goal.returns
-returns c = frame_of_runs

@@ -1,5 +1,0 @@
-use Rattle.pm3_graph.proofs.Writing.{writes_stand}
-use Rattle.pm3_graph.proofs.law.written_places.Goals as goal
-
-pub returns : goal.returns
-returns c = writes_stand
