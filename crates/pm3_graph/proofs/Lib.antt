@@ -1,4 +1,4 @@
 mod Views
-pub mod Framing
-pub mod Keeping
-pub mod Writing
+mod Framing
+mod Keeping
+mod Writing

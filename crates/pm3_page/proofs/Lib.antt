@@ -1,18 +1,18 @@
-pub mod BitLists
-pub mod ObjectOrder
-pub mod Bitmaps
-pub mod Indexes
-pub mod PageMaps
-pub mod Scanning
-pub mod StepCases
-pub mod RoundTrips
-pub mod Onward
-pub mod Ahead
-pub mod BodyRoles
-pub mod PageForms
-pub mod PageReads
-pub mod WordBytes
-pub mod ReferencePairs
-pub mod FileForms
-pub mod Faulty
-pub mod SameBits
+mod BitLists
+mod ObjectOrder
+mod Bitmaps
+mod Indexes
+mod PageMaps
+mod Scanning
+mod StepCases
+mod RoundTrips
+mod Onward
+mod Ahead
+mod BodyRoles
+mod PageForms
+mod PageReads
+mod WordBytes
+mod ReferencePairs
+mod FileForms
+mod Faulty
+mod SameBits

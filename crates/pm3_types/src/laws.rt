@@ -1,7 +1,7 @@
 //! Laws over the definitions. Each is a function with an empty body, whose clauses are the law.
 ghost use Rattle.std.specs.Prelude.{◌≡◌};
 ghost use Rattle.pm3_types.specs.NumberingLaws.{MeetsTheReached, MeetsOnce, ComputesTheClosure};
-ghost use Rattle.pm3_types.specs.PageLaws.{PageHasForm, OneCatalog};
+ghost use Rattle.pm3_types.specs.PageLaws.{PageHasForm, OneCatalog, DepartureStands};
 ghost use Rattle.pm3_types.specs.ReachedLaws.{OneClosure, AlikeClosures, PartsReach, ClosureIsClosed, ReachedWith};
 ghost use Rattle.pm3_types.specs.ImageLaws.{OneLayout, ShowsEachName, ShowsObjects, ShowsNothingElse, ShowsAlike, ShowsOneChange, ShowsOnePageChange};
 ghost use Rattle.pm3_types.specs.ImageLaws.{WritesOneField, WritesKeepLayout, WritesKeepOthers, PlacesKeepLayout, PlacesKeepOthers};
@@ -23,10 +23,12 @@ pub fn dumps()
     ensures knot { dump tried_catalog knot ≡ knot_text }
 {}
 
-/// The bytes of page 1: those of a catalog have the form, and those of two catalogs are not the same.
+/// The bytes of page 1: those of a catalog have the form, and those of two catalogs are not the same. Nothing that stands
+/// behind a field named as a departure can mend the page.
 pub fn pages()
     ensures form { PageHasForm }
     ensures one { OneCatalog }
+    ensures departure { DepartureStands }
 {}
 
 /// The numbering of a dump: it numbers just the reached names, each once, and so the closure can be computed from it.
