@@ -3,6 +3,7 @@ pub mod CatalogFields
 pub mod Growing
 pub mod HeadBytes
 pub mod HeadLast
+pub mod HeadStands
 pub mod OneHead
 pub mod Pieces
 pub mod Replacing
