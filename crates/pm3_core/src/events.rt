@@ -1,6 +1,7 @@
 //! What may happen to the machine, and how it answers.
 
 use std::alloc::AllocError;
+use thiserror::Error;
 
 /// The rows, one for each mutator.
 pub const ROWS: u32 = 32;
@@ -40,7 +41,8 @@ pub enum Stepped {
 }
 
 /// Memory ran out.
-#[derive(Clone, Copy, Debug, PartialEq, Eq)]
+#[derive(Clone, Copy, Debug, PartialEq, Eq, Error)]
+#[error("out of memory")]
 pub struct Memory;
 
 impl From<AllocError> for Memory {

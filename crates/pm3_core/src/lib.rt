@@ -8,10 +8,15 @@
 //! says that a page which is moved has no standing word that names it, by the invariant of `apart_law`.
 #![tactic(auto)]
 
+// Which page a word names.
+mod naming;
+
+// The machine, its events, and the law on every list of them.
 mod events;
 mod law;
 mod machine;
-mod naming;
+
+// What the machine keeps of the marked pages.
 mod page_marks;
 mod readings;
 

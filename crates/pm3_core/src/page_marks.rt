@@ -10,7 +10,7 @@ use std::alloc::{AllocError, Global};
 use std::marker::Model;
 
 #[derive(Drop)]
-pub struct PageMarks {
+pub(crate) struct PageMarks {
     readings: Vec<Option<Reading>>,
     listed: Vec<u32>,
     seats: Vec<usize>,
@@ -30,7 +30,7 @@ impl Model for PageMarks {
 
 impl PageMarks {
     /// No page is marked.
-    pub fn new(alloc: Global, pages: u32) -> Result<Self, AllocError>
+    pub(crate) fn new(alloc: Global, pages: u32) -> Result<Self, AllocError>
         ensures { IfOk result (λ m. m ≡ replicate pages None) }
     {
         Ok(PageMarks {
@@ -41,7 +41,7 @@ impl PageMarks {
     }
 
     /// The mutator that marks the page.
-    pub fn marker(&self, page: u32) -> Option<u32>
+    pub(crate) fn marker(&self, page: u32) -> Option<u32>
         requires { page < length self.now }
         ensures { result ≡ option_map (λ marking. marking.by) (slice_index_or self.now page None) }
     {
@@ -52,7 +52,7 @@ impl PageMarks {
     }
 
     /// Whether each place is read off for the page.
-    pub fn is_whole(&self, page: u32) -> bool
+    pub(crate) fn is_whole(&self, page: u32) -> bool
         requires { page < length self.now }
         ensures { IsTrue result ↔ ((n : ℕ) → n < PLACES → reads_of (slice_index_or self.now page None) n ≡ true) }
     {
@@ -63,7 +63,7 @@ impl PageMarks {
     }
 
     /// Marks a page that is not marked.
-    pub fn mark(&mut self, alloc: Global, page: u32, who: u32) -> Result<(), AllocError>
+    pub(crate) fn mark(&mut self, alloc: Global, page: u32, who: u32) -> Result<(), AllocError>
         requires within { page < length self.old }
         requires unmarked { slice_index_or self.old page None ≡ None }
         ensures ok { OnOk result (self.new ≡ slice_set self.old page (Some (fresh who))) }
@@ -78,7 +78,7 @@ impl PageMarks {
     }
 
     /// Takes the mark off a page.
-    pub fn unmark(&mut self, page: u32)
+    pub(crate) fn unmark(&mut self, page: u32)
         requires within { page < length self.old }
         requires marked { IsSome (slice_index_or self.old page None) }
         ensures { self.new ≡ slice_set self.old page None }
@@ -88,7 +88,7 @@ impl PageMarks {
     }
 
     /// Reads off a place for each page that `who` marks, but for the page that the word there names.
-    pub fn read_off(&mut self, who: u32, place: usize, named: Option<u32>)
+    pub(crate) fn read_off(&mut self, who: u32, place: usize, named: Option<u32>)
         requires { place < PLACES }
         ensures len { length self.new ≡ length self.old }
         ensures marks { (page : ℕ) → slice_index_or self.new page None ≡ with_read who place named page (slice_index_or self.old page None) }

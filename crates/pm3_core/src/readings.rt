@@ -8,7 +8,7 @@ use std::alloc::{AllocError, Global};
 use std::marker::Model;
 
 #[derive(Drop)]
-pub struct Reading {
+pub(crate) struct Reading {
     who: u32,
     read: Vec<bool>,
     left: usize,
@@ -29,7 +29,7 @@ impl Model for Reading {
 
 impl Reading {
     /// The mark of `who`, with no place read off.
-    pub fn begin(alloc: Global, who: u32) -> Result<Self, AllocError>
+    pub(crate) fn begin(alloc: Global, who: u32) -> Result<Self, AllocError>
         ensures { IfOk result (λ reading. reading ≡ fresh who) }
     {
         let read = vec![in alloc; false; PLACES]?;
@@ -41,14 +41,14 @@ impl Reading {
     }
 
     /// The mutator whose mark it is.
-    pub fn who(&self) -> u32
+    pub(crate) fn who(&self) -> u32
         ensures { result ≡ self.now.by }
     {
         self.who
     }
 
     /// Reads off a place.
-    pub fn add(&mut self, place: usize)
+    pub(crate) fn add(&mut self, place: usize)
         requires { place < PLACES }
         ensures { self.new ≡ record { by = self.old.by; read = slice_set self.old.read place true } }
     {
@@ -59,7 +59,7 @@ impl Reading {
     }
 
     /// Whether each place is read off.
-    pub fn is_whole(&self) -> bool
+    pub(crate) fn is_whole(&self) -> bool
         ensures { IsTrue result ↔ ((n : ℕ) → n < PLACES → slice_index_or self.now.read n false ≡ true) }
     {
         self.left == 0

@@ -1,3 +1,4 @@
+//! Pages at their edges, and runs of the machine.
 use super::*;
 use std::test::Fail;
 

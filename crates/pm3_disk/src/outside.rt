@@ -4,21 +4,12 @@ ghost use Rattle.pm3_disk.specs.Content.{IfTold, IsRead, overwrite, Steps, TornC
 ghost use Rattle.pm3_disk.specs.Faults.{HasCause, Rose};
 ghost use Rattle.pm3_disk.specs.Moments.{After, IsSettled, Passes};
 
-use std::error::Error;
-use std::fmt;
-use std::fmt::{Display, Formatter};
+use thiserror::Error;
 
 /// A device didn't do what it was asked. Its count of faults has risen.
-#[derive(Clone, Copy, Debug, PartialEq, Eq)]
+#[derive(Clone, Copy, Debug, PartialEq, Eq, Error)]
+#[error("a device failed")]
 pub struct Failed;
-
-impl Display for Failed {
-    fn fmt<W: fmt::Write>(&self, out: &mut Formatter<W>) -> fmt::Result {
-        out.write_str("a device failed")
-    }
-}
-
-impl Error for Failed {}
 
 /// Reads the bytes that a disk had when the reader was made.
 pub trait Reader {

@@ -1,11 +1,10 @@
 //! Want of memory.
 use std::alloc::AllocError;
-use std::error::Error;
-use std::fmt;
-use std::fmt::{Display, Formatter};
+use thiserror::Error;
 
 /// A call wanted memory, and there was none.
-#[derive(Clone, Copy, Debug, PartialEq, Eq)]
+#[derive(Clone, Copy, Debug, PartialEq, Eq, Error)]
+#[error("out of memory")]
 pub struct Memory;
 
 impl From<AllocError> for Memory {
@@ -13,11 +12,3 @@ impl From<AllocError> for Memory {
         Memory
     }
 }
-
-impl Display for Memory {
-    fn fmt<W: fmt::Write>(&self, out: &mut Formatter<W>) -> fmt::Result {
-        out.write_str("out of memory")
-    }
-}
-
-impl Error for Memory {}

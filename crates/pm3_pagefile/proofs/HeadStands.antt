@@ -101,15 +101,15 @@ head_departure_stands bytes at marks departs are same =
     let k6 = good_first (is_between 32 w64 1 (2 ^ 64 - 1) head) 32 k5.1 in
     let k7 = good_first (are_zeros 40 4056 head) 40 k6.1 in
     let long : (o least most : ℕ) → o + 8 ≡ behind_field o → is_between o w64 least most head ≡ true → (o ≡ at) × (is_between o w64 least most bytes ≡ false) → ⊥ =
-      λ o least most end good here. true_false good here.1 (long_same bytes head e same o least most (omega (arith, end, ap behind_field here.0))) in
+    λ o least most end good here. true_false good here.1 (long_same bytes head e same o least most (omega (arith, end, ap behind_field here.0))) in
     let short : (o least most : ℕ) → o + 4 ≡ behind_field o → is_between o w32 least most head ≡ true → (o ≡ at) × (is_between o w32 least most bytes ≡ false) → ⊥ =
-      λ o least most end good here. true_false good here.1 (short_same bytes head e same o least most (omega (arith, end, ap behind_field here.0))) in
+    λ o least most end good here. true_false good here.1 (short_same bytes head e same o least most (omega (arith, end, ap behind_field here.0))) in
     let highest : (16 ≡ at) × (is_between 16 w32 3 P bytes ≡ false) → ⊥ =
-      λ here.
-        let count : H ≡ P = number_same_32 bytes head e same 12 (omega (arith, ap behind_field here.0)) in
-        short 16 3 P refl (subst (λ (n : ℕ). is_between 16 w32 3 n head ≡ true) count k3.0) here in
+    λ here.
+    let count : H ≡ P = number_same_32 bytes head e same 12 (omega (arith, ap behind_field here.0)) in
+    short 16 3 P refl (subst (λ (n : ℕ). is_between 16 w32 3 n head ≡ true) count k3.0) here in
     let last : (40 ≡ at) × (are_zeros 40 4056 bytes ≡ false) → ⊥ =
-      λ here. true_false k7.0 here.1 (zeros_same bytes head e same 40 4056 (omega (arith, ap behind_field here.0))) in
+    λ here. true_false k7.0 here.1 (zeros_same bytes head e same 40 4056 (omega (arith, ap behind_field here.0))) in
     ⊎_elim (long 0 kind kind refl k0.0)
     (λ d1. ⊎_elim (short 8 1 1 refl k1.0)
     (λ d2. ⊎_elim (short 12 16 16384 refl k2.0)
