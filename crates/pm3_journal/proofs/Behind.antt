@@ -1,12 +1,15 @@
 -- A record that was put is read back.
 use Rattle.std.proofs.Common.{◌≡◌, ◌+◌, ◌*◌, ◌-◌, ◌<◌, ◌≤◌, ◌^◌, ℕ, zero, suc, map, Bool, true, ◌&&◌, leb, ltb, List, [], ◌∷◌, ◌++◌, length, take, drop, get_or, Option, Some, None, refl, sym, ◌∙◌, ap, subst, arith, append_assoc, length-append, length-drop, if◌then◌else◌}
-use Rattle.std.specs.Int.{w32, to_le_bytes, from_le_bytes}
+use Rattle.std.specs.Int.{w32, w64, to_le_bytes, from_le_bytes}
 use Rattle.std.proofs.lemmas.Bool.{and_from, le-leb, lt-ltb}
 use Rattle.std.proofs.lemmas.List.{drop-drop, take_at, drop_at}
 use Rattle.std.proofs.lemmas.Nat.{from_le_bytes-to_le_bytes_4, from_le_bytes-to_le_bytes_8}
-use Rattle.pm3_journal.specs.Format.{PagePart, Image, page_in, Record, parts_bytes, body, parts_size, AreParts, IsFit}
-use Rattle.pm3_journal.specs.Reading.{State, Found, Parts, Good, piece, all_zero, is_due, seq_of, name_of, number_of, high_of, front_damage, part_damage, with_part, parts_at, record_with, record_at}
-use Rattle.pm3_journal.proofs.Placing.{HasRead, IsStanding, reads_so}
+use Rattle.pm3_types.proofs.ZeroBytes.{between, none_yet, zeros_there}
+use Rattle.pm3_journal.specs.Format.{PagePart, Image, page_in, JournalRecord, parts_bytes, body, parts_size, AreParts, IsFit}
+use Rattle.pm3_types.specs.Bytes.{Number, Zeros, number_at, piece, is_zero}
+use Rattle.pm3_journal.specs.Reading.{State, Found, Parts, Good, with_part, parts_at, record_at}
+use Rattle.pm3_journal.specs.RecordFront.{is_due, seq_of, name_of, tag_of, number_of, high_of, pins_of, moved_of, front_departure, part_departure, record_with}
+use Rattle.pm3_journal.proofs.Pieces.{HasRead, IsStanding, reads_so}
 
 pub length_parts : (pages last : ℕ) (parts : List PagePart) → AreParts pages last parts → length (parts_bytes parts) ≡ parts_size parts
 length_parts pages last [] are = refl
@@ -23,32 +26,33 @@ parts_low pages last [] are k d below = absurd (omega (arith, below))
 parts_low pages last (Image page image ∷ parts) are zero d below = are.1
 parts_low pages last (Image page image ∷ parts) are (suc k) d below = parts_low pages page parts are.3 k d (omega (arith, below))
 
-pub length_body : (pages : ℕ) (r : Record) → IsFit pages r → length (body r) ≡ 47 + parts_size r.parts
+pub length_body : (pages : ℕ) (r : JournalRecord) → IsFit pages r → length (body r) ≡ 47 + parts_size r.parts
 unfolding body
 length_body pages r fit = omega (arith, length_parts pages 1 r.parts fit.parts)
 
-part_fine : (pages last : ℕ) (field : List ℕ) → last < from_le_bytes w32 field → from_le_bytes w32 field < pages → all_zero (take 4 (drop 4 field)) ≡ true → part_damage pages last field ≡ None
-unfolding part_damage
-part_fine pages last field above below blank =
-    let in_order : (ltb last (from_le_bytes w32 field) && ltb (from_le_bytes w32 field) pages) ≡ true = and_from _ _ (lt-ltb _ _ above) (lt-ltb _ _ below) in
-    ap (λ (b : Bool). if b then (if all_zero (take 4 (drop 4 field)) then None else Some 4) else Some 0) in_order ∙ ap (λ (b : Bool). if b then None else Some 4) blank
+part_fine : (pages last : ℕ) (field : List ℕ) → 8 ≤ length field → last < number_at w32 0 field → number_at w32 0 field < pages → is_zero (piece 4 4 field) ≡ true → part_departure pages last field ≡ None
+unfolding part_departure
+part_fine pages last field long above below blank =
+    none_yet (Number 0 w32 (last + 1) (pages - 1)) (Zeros 4 4 ∷ []) field (between 0 w32 (last + 1) (pages - 1) (number_at w32 0 field) field (omega arith) refl (omega arith) (omega arith))
+    (none_yet (Zeros 4 4) [] field (zeros_there 4 4 field (omega arith) blank) refl)
 
-front_fine : (pages : ℕ) (front : List ℕ) → all_zero (take 7 (drop 1 front)) ≡ true → 1 ≤ name_of front → name_of front ≤ 2 ^ 62 → number_of front < pages → 3 ≤ high_of front → high_of front ≤ pages → all_zero (take 4 (drop 44 front)) ≡ true → front_damage pages front ≡ None
-unfolding front_damage
-front_fine pages front zeros named names number low high last_zeros =
-    let name : (leb 1 (name_of front) && leb (name_of front) (2 ^ 62)) ≡ true = and_from _ _ (le-leb _ _ named) (le-leb _ _ names) in
-    let count : ltb (number_of front) pages ≡ true = lt-ltb _ _ number in
-    let top : (leb 3 (high_of front) && leb (high_of front) pages) ≡ true = and_from _ _ (le-leb _ _ low) (le-leb _ _ high) in
-    ap (λ (b : Bool). if b then (if leb 1 (name_of front) && leb (name_of front) (2 ^ 62) then (if ltb (number_of front) pages then (if leb 3 (high_of front) && leb (high_of front) pages then (if all_zero (take 4 (drop 44 front)) then None else Some 44) else Some 32) else Some 28) else Some 16) else Some 1) zeros
-    ∙ ap (λ (b : Bool). if b then (if ltb (number_of front) pages then (if leb 3 (high_of front) && leb (high_of front) pages then (if all_zero (take 4 (drop 44 front)) then None else Some 44) else Some 32) else Some 28) else Some 16) name
-    ∙ ap (λ (b : Bool). if b then (if leb 3 (high_of front) && leb (high_of front) pages then (if all_zero (take 4 (drop 44 front)) then None else Some 44) else Some 32) else Some 28) count
-    ∙ ap (λ (b : Bool). if b then (if all_zero (take 4 (drop 44 front)) then None else Some 44) else Some 32) top
-    ∙ ap (λ (b : Bool). if b then None else Some 44) last_zeros
+front_fine : (pages : ℕ) (front : List ℕ) → 48 ≤ length front → is_zero (piece 1 7 front) ≡ true → 1 ≤ name_of front → name_of front ≤ 2 ^ 62 → number_of front < pages → 3 ≤ high_of front → high_of front ≤ pages → is_zero (piece 44 4 front) ≡ true → front_departure pages front ≡ None
+unfolding front_departure
+front_fine pages front long zeros named names number low high last_zeros =
+    none_yet (Zeros 1 7) (Number 16 w64 1 (2 ^ 62) ∷ Number 28 w32 0 (pages - 1) ∷ Number 32 w32 3 pages ∷ Zeros 44 4 ∷ []) front (zeros_there 1 7 front (omega arith) zeros)
+    (none_yet (Number 16 w64 1 (2 ^ 62)) (Number 28 w32 0 (pages - 1) ∷ Number 32 w32 3 pages ∷ Zeros 44 4 ∷ []) front (between 16 w64 1 (2 ^ 62) (name_of front) front (omega arith) refl named names)
+    (none_yet (Number 28 w32 0 (pages - 1)) (Number 32 w32 3 pages ∷ Zeros 44 4 ∷ []) front (between 28 w32 0 (pages - 1) (number_of front) front (omega arith) refl (omega arith) (omega arith))
+    (none_yet (Number 32 w32 3 pages) (Zeros 44 4 ∷ []) front (between 32 w32 3 pages (high_of front) front (omega arith) refl low high)
+    (none_yet (Zeros 44 4) [] front (zeros_there 44 4 front (omega arith) last_zeros) refl))))
+
+page_back : (page : ℕ) (field : List ℕ) → page < 2 ^ 32 → field ≡ to_le_bytes w32 page ++ (0 ∷ 0 ∷ 0 ∷ 0 ∷ []) → number_at w32 0 field ≡ page
+unfolding number_at
+page_back page field small is = ap (from_le_bytes w32) is ∙ from_le_bytes-to_le_bytes_4 page small
 
 pub parts_read : (pages last at : ℕ) (c more : List ℕ) (parts : List PagePart) → pages ≤ 16384 → AreParts pages last parts → drop at c ≡ parts_bytes parts ++ more → parts_at (length parts) pages last at c ≡ Good parts
 parts_read pages last at c more [] few are is = refl
 parts_read pages last at c more (Image page image ∷ parts) few are is =
-    ap (λ (d : Option ℕ). with_part at d (Image (from_le_bytes w32 (piece at 8 c)) (piece (at + 8) 4096 c)) (parts_at (length parts) pages (from_le_bytes w32 (piece at 8 c)) (at + 4104) c)) fine
+    ap (λ (d : Option ℕ). with_part at d (Image (number_at w32 0 (piece at 8 c)) (piece (at + 8) 4096 c)) (parts_at (length parts) pages (number_at w32 0 (piece at 8 c)) (at + 4104) c)) fine
     ∙ ap (λ (n : ℕ). with_part at None (Image n (piece (at + 8) 4096 c)) (parts_at (length parts) pages n (at + 4104) c)) number
     ∙ ap (λ (i : List ℕ). with_part at None (Image page i) (parts_at (length parts) pages page (at + 4104) c)) image_is
     ∙ ap (λ (p : Parts). with_part at None (Image page image) p) (parts_read pages page (at + 4104) c more parts few are.3 rest_is)
@@ -56,16 +60,14 @@ parts_read pages last at c more (Image page image ∷ parts) few are is =
     field : piece at 8 c ≡ to_le_bytes w32 page ++ (0 ∷ 0 ∷ 0 ∷ 0 ∷ [])
     field = ap (take 8) is
 
-    number : from_le_bytes w32 (piece at 8 c) ≡ page
-    number =
-        let small : page < 2 ^ 32 = omega (arith, are.1) in
-        ap (from_le_bytes w32) field ∙ from_le_bytes-to_le_bytes_4 page small
+    number : number_at w32 0 (piece at 8 c) ≡ page
+    number = page_back page (piece at 8 c) (omega (arith, are.1)) field
 
-    fine : part_damage pages last (piece at 8 c) ≡ None
+    fine : part_departure pages last (piece at 8 c) ≡ None
     fine =
-        let above : last < from_le_bytes w32 (piece at 8 c) = omega (arith, number, are.0) in
-        let below : from_le_bytes w32 (piece at 8 c) < pages = omega (arith, number, are.1) in
-        part_fine pages last (piece at 8 c) above below (ap (λ (f : List ℕ). all_zero (take 4 (drop 4 f))) field)
+        let above : last < number_at w32 0 (piece at 8 c) = omega (arith, number, are.0) in
+        let below : number_at w32 0 (piece at 8 c) < pages = omega (arith, number, are.1) in
+        part_fine pages last (piece at 8 c) (omega (arith, ap length field)) above below (ap (λ (f : List ℕ). is_zero (piece 4 4 f)) field)
 
     behind : drop (at + 8) c ≡ image ++ (parts_bytes parts ++ more)
     behind = sym (drop-drop 8 at c) ∙ ap (drop 8) is ∙ append_assoc image (parts_bytes parts) more
@@ -80,7 +82,7 @@ parts_read pages last at c more (Image page image ∷ parts) few are is =
     rest_is = ap (λ (n : ℕ). drop n c) further ∙ sym (drop-drop 4096 (at + 8) c) ∙ ap (drop 4096) behind ∙ drop_at image (parts_bytes parts ++ more) 4096 are.2
 
 -- the 48 bytes at the front of a record that was put, and what lies behind them
-module _ (pages : ℕ) (r : Record) (more : List ℕ) (fit : IsFit pages r) where
+module _ (pages : ℕ) (r : JournalRecord) (more : List ℕ) (fit : IsFit pages r) where
   small_number : length r.parts < 2 ^ 32
   small_number = omega (arith, fit.page_count, fit.number)
 
@@ -91,55 +93,59 @@ module _ (pages : ℕ) (r : Record) (more : List ℕ) (fit : IsFit pages r) wher
   small_name = omega (arith, fit.names)
 
   seq_back : seq_of (take 48 (1 ∷ (body r ++ more))) ≡ r.seq
-  unfolding body
+  unfolding body number_at
   seq_back = from_le_bytes-to_le_bytes_8 r.seq fit.seq
 
   name_back : name_of (take 48 (1 ∷ (body r ++ more))) ≡ r.next_name
-  unfolding body
+  unfolding body number_at
   name_back = from_le_bytes-to_le_bytes_8 r.next_name small_name
 
-  tag_back : from_le_bytes w32 (drop 24 (take 48 (1 ∷ (body r ++ more)))) ≡ r.tag
-  unfolding body
+  tag_back : tag_of (take 48 (1 ∷ (body r ++ more))) ≡ r.tag
+  unfolding body number_at
   tag_back = from_le_bytes-to_le_bytes_4 r.tag fit.tag
 
   number_back : number_of (take 48 (1 ∷ (body r ++ more))) ≡ length r.parts
-  unfolding body
+  unfolding body number_at
   number_back = from_le_bytes-to_le_bytes_4 (length r.parts) small_number
 
   high_back : high_of (take 48 (1 ∷ (body r ++ more))) ≡ r.high_page
-  unfolding body
+  unfolding body number_at
   high_back = from_le_bytes-to_le_bytes_4 r.high_page small_high
 
-  pins_back : from_le_bytes w32 (drop 36 (take 48 (1 ∷ (body r ++ more)))) ≡ r.pins
-  unfolding body
+  pins_back : pins_of (take 48 (1 ∷ (body r ++ more))) ≡ r.pins
+  unfolding body number_at
   pins_back = from_le_bytes-to_le_bytes_4 r.pins fit.pins
 
-  moved_back : from_le_bytes w32 (drop 40 (take 48 (1 ∷ (body r ++ more)))) ≡ r.moved
-  unfolding body
+  moved_back : moved_of (take 48 (1 ∷ (body r ++ more))) ≡ r.moved
+  unfolding body number_at
   moved_back = from_le_bytes-to_le_bytes_4 r.moved fit.moved
 
-  zeros_back : all_zero (take 7 (drop 1 (take 48 (1 ∷ (body r ++ more))))) ≡ true
-  unfolding body
+  zeros_back : is_zero (piece 1 7 (take 48 (1 ∷ (body r ++ more)))) ≡ true
+  unfolding body number_at
   zeros_back = refl
 
-  last_zeros_back : all_zero (take 4 (drop 44 (take 48 (1 ∷ (body r ++ more))))) ≡ true
-  unfolding body
+  last_zeros_back : is_zero (piece 44 4 (take 48 (1 ∷ (body r ++ more)))) ≡ true
+  unfolding body number_at
   last_zeros_back = refl
 
   parts_behind : drop 48 (1 ∷ (body r ++ more)) ≡ parts_bytes r.parts ++ more
-  unfolding body
+  unfolding body number_at
   parts_behind = refl
 
-  pub all_fine : front_damage pages (take 48 (1 ∷ (body r ++ more))) ≡ None
+  long_front : 48 ≤ length (take 48 (1 ∷ (body r ++ more)))
+  unfolding body
+  long_front = omega arith
+
+  pub all_fine : front_departure pages (take 48 (1 ∷ (body r ++ more))) ≡ None
   all_fine =
-      front_fine pages (take 48 (1 ∷ (body r ++ more))) zeros_back (omega (arith, name_back, fit.named)) (omega (arith, name_back, fit.names)) (omega (arith, number_back, fit.number)) (omega (arith, high_back, fit.low)) (omega (arith, high_back, fit.high)) last_zeros_back
+      front_fine pages (take 48 (1 ∷ (body r ++ more))) long_front zeros_back (omega (arith, name_back, fit.named)) (omega (arith, name_back, fit.names)) (omega (arith, number_back, fit.number)) (omega (arith, high_back, fit.low)) (omega (arith, high_back, fit.high)) last_zeros_back
 
   pub record_back : record_with (take 48 (1 ∷ (body r ++ more))) r.parts ≡ r
   record_back = λ i. record { seq = seq_back i; next_name = name_back i; tag = tag_back i; high_page = high_back i; pins = pins_back i; moved = moved_back i; parts = r.parts }
 
 -- a record that is fit, and has the number due, is read where it stands behind an open gate
-pub reads : (s : State) (at : ℕ) (c more : List ℕ) (r : Record) → IsFit s.pages r → is_due s.due r.seq ≡ true → drop at c ≡ 1 ∷ (body r ++ more) → record_at s at c ≡ Found r
-reads s at c more r fit due is = reads_so s at c r there
+pub read_back : (s : State) (at : ℕ) (c more : List ℕ) (r : JournalRecord) → IsFit s.pages r → is_due s.due r.seq ≡ true → drop at c ≡ 1 ∷ (body r ++ more) → record_at s at c ≡ Found r
+read_back s at c more r fit due is = reads_so s at c r there
   where
     front : take 48 (1 ∷ (body r ++ more)) ≡ piece at 48 c
     front = ap (take 48) (sym is)
@@ -167,7 +173,7 @@ reads s at c more r fit due is = reads_so s at c r there
     there : HasRead s at c r
     there = record {
       stood = subst (IsStanding s.due (length c - at)) front stood;
-      fine = ap (front_damage s.pages) (sym front) ∙ all_fine s.pages r more fit;
+      fine = ap (front_departure s.pages) (sym front) ∙ all_fine s.pages r more fit;
       parts_there = ap (λ (n : ℕ). parts_at n s.pages 1 (at + 48) c) (ap number_of (sym front) ∙ number) ∙ parts_there;
       is = ap (λ (f : List ℕ). record_with f r.parts) (sym front) ∙ record_back s.pages r more fit;
     }

@@ -2,7 +2,7 @@
 use Rattle.std.proofs.Common.{◌≡◌, ◌+◌, ◌*◌, ◌<◌, ◌≤◌, ℕ, List, [], ◌∷◌, ◌++◌, map, length, take, drop, get_or, refl, sym, ◌∙◌, ap, append_assoc, arith}
 use Rattle.std.proofs.lemmas.List.{append-nil, drop_more, drop_all, take_all, map_more}
 use Rattle.pm3_journal.specs.Format.{Image, part_bytes, parts_bytes, parts_size, page_in}
-use Rattle.pm3_journal.specs.Heads.{part_of}
+use Rattle.pm3_journal.specs.Summaries.{part_of}
 
 -- one page more is put
 pub bytes_step : (items : List (ℕ × List ℕ)) (i number : ℕ) (image now next whole : List ℕ) → i < length items → now ++ parts_bytes (map part_of (drop i items)) ≡ whole → number ≡ (get_or items i (0, [])).0 → image ≡ (get_or items i (0, [])).1 → next ≡ now ++ part_bytes (Image number image) → next ++ parts_bytes (map part_of (drop (i + 1) items)) ≡ whole

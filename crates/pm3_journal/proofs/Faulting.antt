@@ -1,8 +1,8 @@
 -- Faults that are handed on.
 use Rattle.std.proofs.Common.{◌≡◌, ℕ, Err}
 use Rattle.std.specs.Prelude.{IsErrOf}
-use Rattle.pm3_journal.specs.declared.reading.RecoverFault.{RecoverFault}
-use Rattle.pm3_journal.specs.declared.reading.RecoverFault.TheVariants.{Damaged}
+use Rattle.pm3_journal.specs.declared.faults.RecoverFault.{RecoverFault}
+use Rattle.pm3_journal.specs.declared.faults.RecoverFault.TheVariants.{Damaged}
 
 pub err_is : {T : Type 0} {a b : RecoverFault} → IsErrOf {T = T} (Err a) b → a ≡ b
 err_is same = cc same

@@ -1,21 +1,21 @@
-mod Appending
-mod Behind
 mod Breaking
-mod Calmly
+mod Departing
 mod Continuing
 mod Entering
-mod Examples
 mod Faulting
 mod Gating
-mod Listing
 mod Locality
 mod Noting
 mod Picturing
-mod Placing
 mod Recovering
 mod Restarting
-mod Rising
 mod Scanning
+pub mod Appending
+pub mod Behind
 pub mod Emptying
-pub mod OneOpening
+pub mod Examples
 pub mod Imaging
+pub mod Listing
+pub mod OneOpening
+pub mod Pieces
+pub mod Rising

@@ -9,8 +9,8 @@ use Rattle.pm3_types.specs.Objects.{is_unmoved_on, IsReachedAt, root, next}
 use Rattle.pm3_types.specs.Shown.{Book, Images, shown}
 use Rattle.pm3_types.proofs.OnePage.{one_catalog}
 use Rattle.pm3_types.proofs.Parts.{same_option}
-use Rattle.pm3_journal.specs.Format.{Record}
-use Rattle.pm3_journal.specs.Head.{page_count_of}
+use Rattle.pm3_journal.specs.Format.{JournalRecord}
+use Rattle.pm3_journal.specs.FileHead.{page_count_of}
 use Rattle.pm3_journal.specs.Opening.{AreImagesOf, AreReached, OpenTo, page_bytes}
 use Rattle.pm3_journal.proofs.Listing.{whole_is}
 
@@ -32,7 +32,7 @@ module _ (catalog : List Fields) (base : ℕ) (images : Images) where
   reached_on a (root _ from object) = on_a_page (get images (page_in base a)) (word_in base a) (second_holds (is_address base a) _ object)
   reached_on a (next m _ before refers object) = on_a_page (get images (page_in base a)) (word_in base a) (second_holds (is_address base a) _ object)
 
-  module _ (list : List Record) where
+  module _ (list : List JournalRecord) where
     book_in : (one other : Book) (name high name_other high_other : ℕ) → AreReached catalog base list images one name high → AreReached catalog base list images other name_other high_other
         → (a n : ℕ) → get one a ≡ Some n → get other a ≡ Some n
     book_in one other name high name_other high_other first second a n is =
@@ -47,7 +47,7 @@ module _ (catalog : List Fields) (base : ℕ) (images : Images) where
     one_book one other name high name_other high_other first second = same_map nat_cmp_total nat_cmp-IsAntisymmetric one other (λ a.
         same_option (get one a) (get other a) (book_in one other name high name_other high_other first second a) (book_in other one name_other high_other name high second first a))
 
-one_view : (catalog : List Fields) (base pages : ℕ) (file : List ℕ) (list : List Record) (one other : Images) → AreImagesOf catalog base pages file list one → AreImagesOf catalog base pages file list other → one ≡ other
+one_view : (catalog : List Fields) (base pages : ℕ) (file : List ℕ) (list : List JournalRecord) (one other : Images) → AreImagesOf catalog base pages file list one → AreImagesOf catalog base pages file list other → one ≡ other
 one_view catalog base pages file list one other first second = same_map nat_cmp_total nat_cmp-IsAntisymmetric one other (λ page.
     same_option (get one page) (get other page) (λ sheet is. (second page sheet).1 ((first page sheet).0 is)) (λ sheet is. (first page sheet).1 ((second page sheet).0 is)))
 
@@ -61,16 +61,16 @@ opens_once base file journal g h one other = one.graph ∙ ap (λ (c : List Fiel
     lists = whole_is (sym one.records_are ∙ other.records_are)
 
     catalogs : one.catalog ≡ other.catalog
-    catalogs = one_catalog one.catalog other.catalog one.is_catalog other.is_catalog (sym one.catalog_is ∙ ap (λ (l : List Record). page_bytes file l 1) lists ∙ other.catalog_is)
+    catalogs = one_catalog one.catalog other.catalog one.is_catalog other.is_catalog (sym one.catalog_is ∙ ap (λ (l : List JournalRecord). page_bytes file l 1) lists ∙ other.catalog_is)
 
     views : one.images ≡ other.images
     views = one_view other.catalog base pages file other.list one.images other.images
-        (subst (λ (l : List Record). AreImagesOf other.catalog base pages file l one.images) lists (subst (λ (c : List Fields). AreImagesOf c base pages file one.list one.images) catalogs one.images_are)) other.images_are
+        (subst (λ (l : List JournalRecord). AreImagesOf other.catalog base pages file l one.images) lists (subst (λ (c : List Fields). AreImagesOf c base pages file one.list one.images) catalogs one.images_are)) other.images_are
 
     reached : AreReached other.catalog base other.list other.images one.book one.next_name one.high_page
     reached =
         subst (λ (i : Images). AreReached other.catalog base other.list i one.book one.next_name one.high_page) views
-        (subst (λ (l : List Record). AreReached other.catalog base l one.images one.book one.next_name one.high_page) lists
+        (subst (λ (l : List JournalRecord). AreReached other.catalog base l one.images one.book one.next_name one.high_page) lists
         (subst (λ (c : List Fields). AreReached c base one.list one.images one.book one.next_name one.high_page) catalogs one.reached))
 
     books : one.book ≡ other.book

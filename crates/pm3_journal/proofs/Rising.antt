@@ -1,5 +1,5 @@
 -- Pages of rising numbers.
-use Rattle.std.proofs.Common.{◌≡◌, ⊎_elim, ◌+◌, ◌<◌, ◌≤◌, ◌==◌, if◌then◌else◌, ℕ, suc, zero, Bool, List, [], ◌∷◌, ◌++◌, length, get_or, Option, Some, None, refl, ◌∙◌, ap, arith}
+use Rattle.std.proofs.Common.{◌≡◌, ⊎_elim, ◌+◌, ◌<◌, ◌≤◌, ◌==◌, if◌then◌else◌, ◌||◌, ℕ, suc, zero, Bool, true, false, is_some, List, [], ◌∷◌, ◌++◌, length, get_or, Option, Some, None, refl, ◌∙◌, ap, arith}
 use Rattle.std.proofs.lemmas.Bool.{cases_lt, eq-eqb, ne_eqb}
 use Rattle.std.proofs.lemmas.List.{get_or_append_left, get_or_push, length_push}
 use Rattle.pm3_journal.specs.Pages.{page_at, IsRising, AreBelow, image_of}
@@ -63,3 +63,16 @@ image_found page (suc i) (item ∷ items) rising within here =
 -- the pages before one index are below the number, and those from another on are above it
 pub image_between : (page low high : ℕ) (items : List (ℕ × List ℕ)) → high ≤ low → ((i : ℕ) → i < low → page_at items i < page) → ((i : ℕ) → high ≤ i → i < length items → page < page_at items i) → image_of page items ≡ None
 image_between page low high items met below above = image_missing page items (λ i within same. ⊎_elim (λ less. omega (arith, below i less, same)) (λ no_less. omega (arith, above i (omega arith) within, same)) (cases_lt i low))
+
+-- whether a page has an image, once one more is put behind the others
+pub image_pushed : (q page : ℕ) (image : List ℕ) (items : List (ℕ × List ℕ)) → is_some (image_of q (items ++ (page, image) ∷ [])) ≡ (is_some (image_of q items) || (page == q))
+image_pushed q page image [] = alone (page == q)
+  where
+    alone : (b : Bool) → is_some (if b then Some image else None) ≡ b
+    alone true = refl
+    alone false = refl
+image_pushed q page image (item ∷ items) = among (item.0 == q) (image_of q (items ++ (page, image) ∷ [])) (image_of q items) (image_pushed q page image items)
+  where
+    among : (b : Bool) (now was : Option (List ℕ)) → is_some now ≡ (is_some was || (page == q)) → is_some (if b then Some item.1 else now) ≡ (is_some (if b then Some item.1 else was) || (page == q))
+    among true now was is = refl
+    among false now was is = is

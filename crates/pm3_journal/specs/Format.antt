@@ -6,7 +6,7 @@ use Rattle.std.specs.Int.{w32, w64, to_le_bytes}
 pub data PagePart : Type 0 where
   Image : ℕ → List ℕ → PagePart
 
-pub record Record : Type 0 where
+pub record JournalRecord : Type 0 where
   pub seq : ℕ  -- its sequence number
   pub next_name : ℕ
   pub tag : ℕ
@@ -23,7 +23,7 @@ parts_bytes [] = []
 parts_bytes (part ∷ parts) = part_bytes part ++ parts_bytes parts
 
 -- the bytes of a record behind its gate
-unfoldable pub body : Record → List ℕ
+unfoldable pub body : JournalRecord → List ℕ
 body r = 0 ∷ 0 ∷ 0 ∷ 0 ∷ 0 ∷ 0 ∷ 0 ∷ (to_le_bytes w64 r.seq ++ (to_le_bytes w64 r.next_name ++ (to_le_bytes w32 r.tag ++ (to_le_bytes w32 (length r.parts)
     ++ (to_le_bytes w32 r.high_page ++ (to_le_bytes w32 r.pins ++ (to_le_bytes w32 r.moved ++ (0 ∷ 0 ∷ 0 ∷ 0 ∷ parts_bytes r.parts))))))))
 
@@ -39,7 +39,7 @@ parts_size [] = 0
 parts_size (part ∷ parts) = part_size part + parts_size parts
 
 -- how many bytes a record has, its gate among them
-abbrev pub record_size : Record → ℕ
+abbrev pub record_size : JournalRecord → ℕ
 record_size r = 48 + parts_size r.parts
 
 abbrev pub page_in : PagePart → ℕ
@@ -51,7 +51,7 @@ AreParts pages last [] = Unit {0}
 AreParts pages last (Image page image ∷ parts) = (last < page) × (page < pages) × (length image ≡ 4096) × AreParts pages page parts
 
 -- no field of the record is damaged, in a journal for so many pages
-pub record IsFit (pages : ℕ) (r : Record) : Type 0 where
+pub record IsFit (pages : ℕ) (r : JournalRecord) : Type 0 where
   pub page_count : pages ≤ 16384
   pub seq : r.seq < 2 ^ 64
   pub named : 1 ≤ r.next_name

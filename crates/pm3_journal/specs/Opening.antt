@@ -12,9 +12,9 @@ use Rattle.pm3_types.specs.Objects.{IsReachedAt}
 use Rattle.pm3_page.specs.Head.{AreMarks, head_page}
 use Rattle.pm3_page.specs.PageBytes.{page_read}
 use Rattle.pm3_page.specs.declared.marks.Marks.{Marks}
-use Rattle.pm3_journal.specs.Format.{PagePart, Image, Record}
-use Rattle.pm3_journal.specs.Head.{page_count_of}
-use Rattle.pm3_journal.specs.Reading.{piece}
+use Rattle.pm3_journal.specs.Format.{PagePart, Image, JournalRecord}
+use Rattle.pm3_journal.specs.FileHead.{page_count_of}
+use Rattle.pm3_types.specs.Bytes.{piece}
 use Rattle.pm3_journal.specs.Records.{records, Whole}
 
 -- the image of a page in the parts of a record, or what it was before
@@ -23,27 +23,27 @@ image_in page [] was = was
 image_in page (Image number image ∷ parts) was = image_in page parts (if number == page then Some image else was)
 
 -- the last image of a page in the records, or what it was before
-abbrev pub last_image : ℕ → List Record → Option (List ℕ) → Option (List ℕ)
+abbrev pub last_image : ℕ → List JournalRecord → Option (List ℕ) → Option (List ℕ)
 last_image page [] was = was
 last_image page (r ∷ rs) was = last_image page rs (image_in page r.parts was)
 
 -- the bytes of a page: its last image in the records, or what the file has
-abbrev pub page_bytes : List ℕ → List Record → ℕ → List ℕ
+abbrev pub page_bytes : List ℕ → List JournalRecord → ℕ → List ℕ
 page_bytes file list page = unwrap_or (last_image page list None) (piece (4096 * page) 4096 file)
 
 -- the next name and the high page of a store: those of the last record, or those of page 0 where there is none
-pub record AreAt (file : List ℕ) (list : List Record) (pages next_name high_page : ℕ) : Type 0 where
+pub record AreAt (file : List ℕ) (list : List JournalRecord) (pages next_name high_page : ℕ) : Type 0 where
   pub head : list ≡ [] → (marks : Marks) × AreMarks marks × (piece 0 4096 file ≡ head_page marks) × (marks.pages ≡ pages) × (marks.next_name ≡ next_name) × (marks.high_page ≡ high_page)
-  pub last : (front : List Record) (r : Record) → list ≡ front ++ r ∷ [] → (r.next_name ≡ next_name) × (r.high_page ≡ high_page)
+  pub last : (front : List JournalRecord) (r : JournalRecord) → list ≡ front ++ r ∷ [] → (r.next_name ≡ next_name) × (r.high_page ≡ high_page)
 
 -- the images are those of the pages from 2 on whose bytes have the form
-abbrev pub AreImagesOf : List Fields → ℕ → ℕ → List ℕ → List Record → Images → Type 0
+abbrev pub AreImagesOf : List Fields → ℕ → ℕ → List ℕ → List JournalRecord → Images → Type 0
 AreImagesOf catalog base pages file list images = (page : ℕ) (sheet : Sheet)
     → get images page ≡ Some sheet ↔ ((2 ≤ page) × (page < pages) × (page_read catalog base pages page (page_bytes file list page) ≡ Ok sheet))
 
 -- The images are whole as far as they are reached: page 2 and all pages of the records are among them, and the book names
 -- what is reached from the roots, below the next name and the high page.
-pub record AreReached (catalog : List Fields) (base : ℕ) (list : List Record) (images : Images) (book : Book) (next_name high_page : ℕ) : Type 0 where
+pub record AreReached (catalog : List Fields) (base : ℕ) (list : List JournalRecord) (images : Images) (book : Book) (next_name high_page : ℕ) : Type 0 where
   pub roots : is_some (get images 2) ≡ true
   pub recorded : (page : ℕ) → is_some (last_image page list None) ≡ true → is_some (get images page) ≡ true
   pub reached : (a : ℕ) → IsReachedAt catalog base images a → is_some (get book a) ≡ true
@@ -57,7 +57,7 @@ pub record AreReached (catalog : List Fields) (base : ℕ) (list : List Record) 
 
 -- The bytes of a page file and of a journal open to the graph g: what the objects show that are reached from the roots.
 pub record OpenTo (base : ℕ) (file journal : List ℕ) (g : Part) : Type 0 where
-  pub list : List Record
+  pub list : List JournalRecord
   pub catalog : List Fields
   pub images : Images
   pub book : Book

@@ -106,7 +106,7 @@ impl FilePages {
     }
 
     /// The number of the page at an index.
-    pub(crate) fn number(&self, index: usize) -> u32
+    pub fn number(&self, index: usize) -> u32
         requires { index < length self.now.items }
         ensures { result ≡ (slice_index_or self.now.items index (0, [])).0 }
     {
@@ -114,7 +114,7 @@ impl FilePages {
     }
 
     /// Its bytes.
-    pub(crate) fn image(&self, index: usize) -> &[u8; 4096]
+    pub fn image(&self, index: usize) -> &[u8; 4096]
         requires { index < length self.now.items }
         ensures bytes { result.now ≡ (slice_index_or self.now.items index (0, [])).1 }
         ensures size { length result.now ≡ 4096 }

@@ -1,24 +1,23 @@
 //! Bytes behind a gate, which is opened once they are on the disk.
-ghost use Rattle.std.specs.Prelude.{◌≡◌, ◌+◌, ◌^◌, ◌<◌, ◌≤◌, true, length, Option, option_map, OnOk};
-ghost use Rattle.pm3_disk.specs.Content.{IfTold, Steps};
-ghost use Rattle.pm3_disk.specs.Faults.{HasCause};
-ghost use Rattle.pm3_disk.specs.Moments.{IsSettled, Passes};
-ghost use Rattle.pm3_journal.specs.Gates.{Appends, AppendLeaves, Closes, ClosingLeaves, entered, EntryLeaves, IsClosed};
+ghost use Rattle.std.specs.Prelude.{◌≡◌, ◌+◌, ◌^◌, ◌<◌, ◌≤◌, ◌∷◌, [], true, if◌then◌else◌, length, option_map, OnOk, OnErr};
+ghost use Rattle.pm3_disk.specs.Content.{IfTold, overwrite};
+ghost use Rattle.pm3_disk.specs.Devices.{IsHonest, IsSynced, LeavesFromTold, Takes};
+ghost use Rattle.pm3_journal.specs.Gates.{AppendLeaves, Closes, ClosingLeaves, entered, EntryLeaves, IsClosed};
 
 use pm3_disk::{Disk, Failed, write_through};
 
 /// Closes the gate at this offset, which is open or missing where it isn't known to be closed. A gate that is closed is
 /// left alone: to write 0 over another byte could tear it open.
-pub fn close_gate<D: Disk>(disk: &mut D, at: u64, is_closed: bool) -> Result<(), Failed>
-    requires settled { IsSettled (D.content disk.old) (D.images disk.old (D.moment disk.old)) }
+pub(crate) fn close_gate<D: Disk>(disk: &mut D, at: u64, is_closed: bool) -> Result<(), Failed>
+    requires settled { IsSynced D.Disk disk.old }
     requires within { IfTold (D.content disk.old) (λ old. at ≤ length old) }
     requires closed { is_closed ≡ true → IfTold (D.content disk.old) (IsClosed at) }
-    ensures done { OnOk result (Steps (Closes at) (D.content disk.old) (D.content disk.new)) }
-    ensures settled { OnOk result (IsSettled (D.content disk.new) (D.images disk.new (D.moment disk.new))) }
-    ensures crash { Passes (D.moment disk.old) (D.moment disk.new) (D.images disk.old) (D.images disk.new)
-        (λ c. IfTold (D.content disk.old) (λ old. ClosingLeaves at is_closed old c)) }
-    ensures told { Steps (λ old new. Unit {0}) (D.content disk.old) (D.content disk.new) }
-    ensures cause { HasCause (D.faults disk.old) (D.faults disk.new) result }
+    ensures written { OnOk result (D.content disk.new ≡ (if is_closed then D.content disk.old else option_map (overwrite at (0 ∷ [])) (D.content disk.old))) }
+    ensures done { OnOk result (Takes D.Disk disk.old disk.new (Closes at)) }
+    ensures settled { OnOk result (IsSynced D.Disk disk.new) }
+    ensures torn { OnErr result (Takes D.Disk disk.old disk.new (ClosingLeaves at is_closed)) }
+    ensures crash { LeavesFromTold D.Disk disk.old disk.new (ClosingLeaves at is_closed) }
+    ensures cause { IsHonest D.Disk disk.old disk.new result }
 {
     if is_closed {
         return Ok(());
@@ -27,41 +26,42 @@ pub fn close_gate<D: Disk>(disk: &mut D, at: u64, is_closed: bool) -> Result<(),
     Ok(())
 }
 
-/// Puts a body behind the closed gate at this offset, and then opens the gate.
-pub fn enter<D: Disk>(disk: &mut D, at: u64, body: &[u8]) -> Result<(), Failed>
-    requires settled { IsSettled (D.content disk.old) (D.images disk.old (D.moment disk.old)) }
+/// Puts a body behind the closed gate at this offset, and then opens the gate. The body is synced before the gate is
+/// written: else a crash could leave the open gate before a body that is there in part.
+pub(crate) fn enter<D: Disk>(disk: &mut D, at: u64, body: &[u8]) -> Result<(), Failed>
+    requires settled { IsSynced D.Disk disk.old }
     requires gate { IfTold (D.content disk.old) (λ old. at < length old) }
     requires small { at + length body.now < 2 ^ 62 }
     ensures done { OnOk result (D.content disk.new ≡ option_map (entered at body.now) (D.content disk.old)) }
-    ensures settled { OnOk result (IsSettled (D.content disk.new) (D.images disk.new (D.moment disk.new))) }
-    ensures crash { Passes (D.moment disk.old) (D.moment disk.new) (D.images disk.old) (D.images disk.new)
-        (λ c. IfTold (D.content disk.old) (λ old. EntryLeaves at body.now old c)) }
-    ensures told { Steps (λ old new. Unit {0}) (D.content disk.old) (D.content disk.new) }
-    ensures cause { HasCause (D.faults disk.old) (D.faults disk.new) result }
+    ensures settled { OnOk result (IsSynced D.Disk disk.new) }
+    ensures torn { OnErr result (Takes D.Disk disk.old disk.new (EntryLeaves at body.now)) }
+    ensures crash { LeavesFromTold D.Disk disk.old disk.new (EntryLeaves at body.now) }
+    ensures cause { IsHonest D.Disk disk.old disk.new result }
 {
     write_through(disk, at + 1, body)?;
+    // Synced once more, so that the record is kept from here on: what is answered next is its receipt.
     write_through(disk, at, &[1])?;
     Ok(())
 }
 
 /// Closes the gate where it isn't, puts a body behind it, and opens it.
-pub fn append_body<D: Disk>(
+pub(crate) fn append_body<D: Disk>(
     disk: &mut D,
     at: u64,
     is_closed: bool,
     body: &[u8],
 ) -> Result<(), Failed>
-    requires settled { IsSettled (D.content disk.old) (D.images disk.old (D.moment disk.old)) }
+    requires settled { IsSynced D.Disk disk.old }
     requires within { IfTold (D.content disk.old) (λ old. at ≤ length old) }
     requires closed { is_closed ≡ true → IfTold (D.content disk.old) (IsClosed at) }
     requires small { at + length body.now < 2 ^ 62 }
-    ensures done { OnOk result (Steps (Appends at body.now) (D.content disk.old) (D.content disk.new)) }
-    ensures settled { OnOk result (IsSettled (D.content disk.new) (D.images disk.new (D.moment disk.new))) }
-    ensures crash { Passes (D.moment disk.old) (D.moment disk.new) (D.images disk.old) (D.images disk.new)
-        (λ c. IfTold (D.content disk.old) (λ old. AppendLeaves at is_closed body.now old c)) }
-    ensures told { Steps (λ old new. Unit {0}) (D.content disk.old) (D.content disk.new) }
-    ensures cause { HasCause (D.faults disk.old) (D.faults disk.new) result }
+    ensures done { OnOk result (D.content disk.new ≡ option_map (entered at body.now) (D.content disk.old)) }
+    ensures settled { OnOk result (IsSynced D.Disk disk.new) }
+    ensures torn { OnErr result (Takes D.Disk disk.old disk.new (AppendLeaves at is_closed body.now)) }
+    ensures crash { LeavesFromTold D.Disk disk.old disk.new (AppendLeaves at is_closed body.now) }
+    ensures cause { IsHonest D.Disk disk.old disk.new result }
 {
+    // An open gate that a crash left, whose record isn't whole, is closed and synced before anything is written behind it.
     close_gate(disk, at, is_closed)?;
     enter(disk, at, body)?;
     Ok(())

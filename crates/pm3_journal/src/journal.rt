@@ -1,91 +1,105 @@
-//! A journal that is open.
-ghost use Rattle.std.specs.Prelude.{◌≡◌, ◌+◌, ◌*◌, ◌^◌, ◌<◌, ◌≤◌, ◌↔◌, ◌⊎◌, true, false, ℕ, List, [], map, get_or, length, Option, Some, None, IfOk, IfErr, OnOk, OnErr, IsErrOf};
-ghost use Rattle.pm3_disk.specs.Content.{IfTold, Steps};
-ghost use Rattle.pm3_disk.specs.Faults.{Rose};
-ghost use Rattle.pm3_disk.specs.Moments.{IsSettled, Passes};
-ghost use Rattle.pm3_journal.specs.Entered.{record_of};
-ghost use Rattle.pm3_journal.specs.Format.{IsFit, Record, record_size};
-ghost use Rattle.pm3_journal.specs.Heads.{head_of};
-ghost use Rattle.pm3_journal.specs.Journals.{HasMaybeOneMore, HasOneMore, Keeps};
-ghost use Rattle.pm3_journal.specs.Reading.{next_seq};
-ghost use Rattle.pm3_journal.specs.Shown.{grown, halted, HasRoom};
+//! A journal that is open: its states, and what it tells of itself.
+ghost use Rattle.std.specs.Prelude.{◌≡◌, ◌≤◌, ◌<◌};
+ghost use Rattle.pm3_journal.specs.Journals.{Keeps};
 
-use crate::encoding::encode;
 use crate::entries::Entries;
-use crate::entry::{Entry, Receipt};
+use crate::entry::Entry;
 use crate::file_pages::FilePages;
-use crate::gate::append_body;
-use crate::summary::summarize;
-use pm3_disk::{Disk, Memory};
-use std::alloc::Global;
+use pm3_disk::Disk;
 use std::marker::Model;
-use std::mem;
 use std::snapshot::Snapshot;
 
-/// No record ends, with the gate behind it, past this many bytes.
-const LIMIT: u64 = 1 << 30;
-
-/// Why an append gave no receipt.
-#[derive(Clone, Copy, Debug, PartialEq, Eq)]
-pub enum AppendFault {
-    /// An earlier call stopped the journal, when this number was due.
-    Stopped { seq: u64 },
-    /// The record and the gate behind it would end past so many bytes.
-    Full { limit: u64 },
-    /// The device failed. The record is on it or not.
-    JournalFault,
-}
+mod append;
+mod closing;
+mod images;
+pub(crate) mod recover;
 
 /// A journal over its device.
+///
+/// | state | comes by | a crash then leaves | the next append |
+/// |---|---|---|---|
+/// | at rest, its gate closed | `append`, `close_first_gate`, `recover` | its records | writes behind the gate |
+/// | at rest, its gate missing or open | `recover` of a file that ends there, or where a crash left an open gate | its records | closes the gate first |
+/// | stopped | an `append` that answers `JournalFault` | its records, with that append's behind them or not | is refused: `Stopped` |
+/// | torn, and stopped | a `close_first_gate` that answers `JournalFault` | what it left before, or no record | is refused: `Stopped` |
+/// | emptied | `close_first_gate` | no record | as at rest, or `Stopped` where it was |
+///
+/// At each moment since it was recovered or emptied a crash leaves some first ones of its records (and of the record whose
+/// append failed), and no others. A journal that stopped stays so, as nobody knows what the next sync would make last.
 #[derive(Drop)]
 pub struct Journal<D: Disk> {
-    pub(crate) disk: D,
-    pub(crate) pages: u32,
-    pub(crate) entries: Entries,
-    pub(crate) end: u64,
-    pub(crate) next: u64,
-    pub(crate) is_closed: bool,
-    pub(crate) stopped: Option<u64>,
-    pub(crate) is_torn: bool,
-    pub(crate) buffer: Vec<u8>,
-    pub(crate) numbers: Vec<u32>,
-    pub(crate) room: Option<u32>,
-    pub(crate) since: Snapshot<D>,
-    pub(crate) images: FilePages,
-    pub(crate) places: Vec<Option<u64>>,
+    /// The device of the journal's file.
+    disk: D,
+    /// How many pages the store has.
+    pages: u32,
+    /// What is kept of the records.
+    entries: Entries,
+    /// Where the list of records ends: the offset of the next record's gate.
+    end: u64,
+    /// The sequence number that is due. Numbers rise by one, so that what an older list left behind the list's end isn't
+    /// taken for a part of it.
+    next: u64,
+    /// Whether the gate at `end` is there and closed.
+    is_closed: bool,
+    /// The number that was due when a call failed.
+    stopped: Option<u64>,
+    /// Whether a closing of the first gate failed, which may be open or closed since.
+    is_torn: bool,
+    /// The bytes of the record that is appended.
+    buffer: Vec<u8>,
+    /// Room for the page numbers of the next record.
+    numbers: Vec<u32>,
+    /// How many pages the next record may have without taking memory.
+    room: Option<u32>,
+    /// The device as it was at the moment from which on the records are kept, for clauses alone.
+    since: Snapshot<D>,
+    /// The append that failed and stopped the journal, for clauses alone.
+    failed: Option<FailedAppend>,
+    /// The last images in the records that were recovered, until they are taken.
+    images: FilePages,
+    /// By page number, the offsets of these images.
+    offsets: Vec<Option<u64>>,
+}
+
+/// An append that failed: the number that was due, and the entry.
+#[derive(Drop)]
+struct FailedAppend {
+    seq: u64,
+    entry: Snapshot<Entry>,
 }
 
 impl<D: Disk> Model for Journal<D> {
-    ghost use Rattle.std.specs.Prelude.{◌≡◌, length, vec_capacity};
-    ghost use Rattle.pm3_journal.specs.Shown.{Shown, shown_code};
+    ghost use Rattle.std.specs.Prelude.{◌≡◌, ◌≤◌, length, option_map, vec_capacity};
+    ghost use Rattle.pm3_journal.specs.Codes.{state_code};
+    ghost use Rattle.pm3_journal.specs.JournalState.{JournalState};
 
-    ghost Value = { Shown D };
+    ghost Value = { JournalState D };
 
-    ghost coded = { shown_code D.code };
+    ghost coded = { state_code D.code };
 
+    ghost use Rattle.pm3_journal.specs.Entered.{record_of};
     ghost use Rattle.pm3_journal.specs.Journals.{HasSpace, Keeps};
-    ghost use Rattle.pm3_journal.specs.Places.{AreLow};
+    ghost use Rattle.pm3_journal.specs.Offsets.{AreLow};
 
-    ghost view = { λ j. record { disk = j.disk; pages = j.pages; heads = j.entries.heads; end = j.end; next = j.next; is_closed = j.is_closed; stopped = j.stopped; is_torn = j.is_torn; since = D.moment j.since.value; room = j.room; images = j.images.items; places = j.places.items } };
+    ghost view = { λ j. record {
+      disk = j.disk;
+      pages = j.pages;
+      summaries = j.entries.summaries;
+      end = j.end;
+      next = j.next;
+      is_closed = j.is_closed;
+      stopped = j.stopped;
+      is_torn = j.is_torn;
+      failed = option_map (λ f. record_of f.seq f.entry.value) j.failed;
+      since = D.moment j.since.value;
+      room = j.room;
+      images = j.images.items;
+      offsets = j.offsets.items;
+    } };
 
-    ghost invariant = { λ j. Keeps j.pages j.end j.next j.is_closed j.stopped j.is_torn j.entries.heads (D.moment j.since.value) (D.moment j.disk) (D.content j.disk) (D.images j.disk)
-        × HasSpace j.room (vec_capacity j.buffer) (vec_capacity j.numbers) (length j.entries.heads) j.entries.slots × AreLow j.places.items × (j.entries.pages ≡ j.pages) };
-}
-
-/// The sequence number after this one.
-pub(crate) fn successor(seq: u64) -> u64
-    ensures { result ≡ next_seq seq }
-{
-    if seq == u64::MAX { 1 } else { seq + 1 }
-}
-
-/// How many bytes the record of an entry has.
-fn size_of_record(seq: u64, entry: &Entry) -> u64
-    requires { length entry.now.pages.items < 2 ^ 32 }
-    ensures size { result ≡ record_size (record_of seq entry.now) }
-    ensures small { result < 2 ^ 45 }
-{
-    48 + 4104 * entry.pages.len() as u64
+    ghost invariant = { λ j. Keeps D.Disk (view j)
+        × HasSpace j.room (vec_capacity j.buffer) (vec_capacity j.numbers) (length j.entries.summaries) j.entries.slots
+        × AreLow j.offsets.items × (j.entries.pages ≡ j.pages) };
 }
 
 impl<D: Disk> Journal<D> {
@@ -96,79 +110,27 @@ impl<D: Disk> Journal<D> {
         self.pages
     }
 
+    /// The sequence number that is due.
+    pub fn next(&self) -> u64
+        ensures { result ≡ self.now.next }
+    {
+        self.next
+    }
+
     /// The number that `Stopped` would carry. What a journal keeps, stopped or not, is said here.
     pub fn stopped(&self) -> Option<u64>
         ensures stopped { result ≡ self.now.stopped }
-        ensures keeps { Keeps self.now.pages self.now.end self.now.next self.now.is_closed self.now.stopped self.now.is_torn self.now.heads self.now.since (D.moment self.now.disk) (D.content self.now.disk) (D.images self.now.disk) }
+        ensures keeps { Keeps D.Disk self.now }
     {
         self.stopped
     }
 
-    /// The heads of the entries.
+    /// The summaries of the records.
     pub fn entries(&self) -> &Entries
-        ensures { result.now.heads ≡ self.now.heads }
+        ensures summaries { result.now.summaries ≡ self.now.summaries }
+        ensures pages { result.now.pages ≡ self.now.pages }
     {
         &self.entries
-    }
-
-    /// Makes room, so that the next append of at most so many pages takes no memory.
-    pub fn reserve(&mut self, pages: u32) -> Result<(), Memory>
-        ensures room { OnOk result (self.new ≡ record self.old { room = Some pages }) }
-        ensures none { OnErr result (self.new ≡ record self.old { room = None }) }
-    {
-        self.room = None;
-        self.buffer.clear();
-        self.buffer.reserve(55 + 4104 * pages as usize)?;
-        self.numbers.clear();
-        self.numbers.reserve(pages as usize)?;
-        self.entries.reserve()?;
-        self.room = Some(pages);
-        Ok(())
-    }
-
-    /// Adds a record. It takes no memory, as far as `reserve` made room, and uses that room up where it answers a receipt.
-    /// From the receipt on each crash leaves the record. After `JournalFault` the journal is stopped.
-    pub fn append(&mut self, entry: &Entry) -> Result<Receipt, AppendFault>
-        requires room { HasRoom self.old.room (length entry.now.pages.items) }
-        requires fit { IsFit self.old.pages (record_of self.old.next entry.now) }
-        ensures receipt { IfOk result (λ receipt. receipt ≡ record { seq = self.old.next; pinned = entry.now.pins; moved = entry.now.moved }) }
-        ensures grown { OnOk result (self.new ≡ grown (record_of self.old.next entry.now) self.new.disk self.old) }
-        ensures added { OnOk result (Steps (HasOneMore (record_of self.old.next entry.now)) (D.content self.old.disk) (D.content self.new.disk)) }
-        ensures settled { OnOk result (IsSettled (D.content self.new.disk) (D.images self.new.disk (D.moment self.new.disk))) }
-        ensures crash { Passes (D.moment self.old.disk) (D.moment self.new.disk) (D.images self.old.disk) (D.images self.new.disk)
-            (λ c. IfTold (D.content self.old.disk) (λ old. HasMaybeOneMore (record_of self.old.next entry.now) old c)) }
-        ensures stopped { (seq : ℕ) → IsErrOf result (AppendFault.Stopped seq) ↔ (self.old.stopped ≡ Some seq) }
-        ensures full { (limit : ℕ) → IsErrOf result (AppendFault.Full limit) ↔ ((self.old.stopped ≡ None) × (limit ≡ 2 ^ 30) × (2 ^ 30 < self.old.end + record_size (record_of self.old.next entry.now) + 8)) }
-        ensures refused { OnErr result (IsErrOf result AppendFault.JournalFault ⊎ (self.new ≡ self.old)) }
-        ensures fault { IsErrOf result AppendFault.JournalFault → Rose (D.faults self.old.disk) (D.faults self.new.disk) }
-        ensures halted { IsErrOf result AppendFault.JournalFault → self.new ≡ halted self.new.disk self.old }
-        ensures later { D.faults self.old.disk ≤ D.faults self.new.disk }
-    {
-        if let Some(seq) = self.stopped {
-            return Err(AppendFault::Stopped { seq });
-        }
-        let seq = self.next;
-        let size = size_of_record(seq, entry);
-        if self.end > LIMIT || self.end + size + 8 > LIMIT {
-            return Err(AppendFault::Full { limit: LIMIT });
-        }
-        encode(&mut self.buffer, seq, entry);
-        let Ok(()) = append_body(&mut self.disk, self.end, self.is_closed, &self.buffer) else {
-            self.stopped = Some(seq);
-            return Err(AppendFault::JournalFault);
-        };
-        let alloc = *self.numbers.allocator();
-        let numbers = mem::replace(&mut self.numbers, Vec::new(alloc));
-        self.entries.add(summarize(numbers, seq, entry));
-        self.end += size;
-        self.next = successor(seq);
-        self.is_closed = true;
-        self.room = None;
-        Ok(Receipt {
-            seq,
-            pinned: entry.pins,
-            moved: entry.moved,
-        })
     }
 
     /// The device.
@@ -188,8 +150,9 @@ impl<D: Disk> Journal<D> {
             numbers: _,
             room: _,
             since: _,
+            failed: _,
             images: _,
-            places: _,
+            offsets: _,
         } = self;
         disk
     }

@@ -5,32 +5,33 @@
 //! list as it was, or with that record. From its receipt on every crash leaves that record.
 #![tactic(auto)]
 
+// Why calls are refused, and the lengths of the file's parts.
+mod faults;
+mod sizes;
+
 // A journal without records.
 mod creation;
-
-// Bytes behind a gate.
-mod gate;
+mod file_head;
 
 // What a commit hands over, and what is kept of it.
 mod entries;
 mod entry;
 mod file_pages;
-
-// The bytes and the head of a record.
-mod encoding;
 mod summary;
 
-// A journal that is open.
-mod closing;
-mod images;
+// The bytes of a record, and bytes behind a gate.
+mod encoding;
+mod gate;
+mod record_front;
+
+// A journal that is open: its states, appends, closings, images, and how it is recovered.
 mod journal;
 
-// The records of a device.
-mod fields;
-mod finding;
-mod reading;
-mod recovered;
-mod recovery;
+// What is read of a device: a stretch of it, one record, the list, the images, all of it.
+mod device_reading;
+mod image_reading;
+mod list_reading;
+mod record_reading;
 mod window;
 
 // A store that is open: its two files, and what is held of them.
@@ -38,19 +39,17 @@ mod opened;
 
 // What the definitions say of worked bytes, and of the graph that files open to.
 mod laws;
-mod opens;
 #[cfg(test)]
 mod recover_tests;
 #[cfg(test)]
 mod tests;
 
-pub use creation::{JournalFault, create};
+pub use creation::create;
 pub use entries::Entries;
 pub use entry::{Entry, Receipt};
+pub use faults::{AppendFault, JournalFault, PageFault, RecoverFault};
 pub use file_pages::FilePages;
-pub use journal::{AppendFault, Journal};
-pub use laws::new_journal_is_empty;
-pub use opened::{Opened, PageFault};
-pub use opens::opens_to_one_graph;
-pub use reading::RecoverFault;
-pub use recovered::recover;
+pub use journal::Journal;
+pub use journal::recover::recover;
+pub use laws::{new_journal_is_empty, opens_to_one_graph};
+pub use opened::Opened;

@@ -1,22 +1,50 @@
-//! The head of an entry.
+//! What is kept of a record.
 ghost use Rattle.std.specs.Prelude.{◌≡◌, ◌+◌, ◌<◌, ◌≤◌, ◌∷◌, [], ◌++◌, length, vec_len, vec_capacity};
 ghost use Rattle.pm3_journal.specs.Entered.{record_of};
-ghost use Rattle.pm3_journal.specs.Heads.{head_of};
+ghost use Rattle.pm3_journal.specs.Summaries.{summary_of};
 
-use crate::entries::EntryHead;
 use crate::entry::Entry;
+use std::marker::Model;
+
+/// A record but for its images.
+#[derive(Drop)]
+pub(crate) struct Summary {
+    pub(crate) seq: u64,
+    pub(crate) next_name: u64,
+    pub(crate) tag: u32,
+    pub(crate) high_page: u32,
+    pub(crate) pins: u32,
+    pub(crate) moved: u32,
+    pub(crate) pages: Vec<u32>,
+}
+
+impl Model for Summary {
+    ghost use Rattle.pm3_journal.specs.Summaries.{Summary};
+
+    ghost Value = { Summary };
+
+    ghost view = { λ s. record {
+      seq = s.seq;
+      next_name = s.next_name;
+      tag = s.tag;
+      high_page = s.high_page;
+      pins = s.pins;
+      moved = s.moved;
+      pages = s.pages.items;
+    } };
+}
 
 /// What is kept of an entry. Its page numbers go into `numbers`, which has room for them.
-pub(crate) fn summarize(numbers: Vec<u32>, seq: u64, entry: &Entry) -> EntryHead
+pub(crate) fn summarize(numbers: Vec<u32>, seq: u64, entry: &Entry) -> Summary
     requires { length entry.now.pages.items ≤ vec_capacity numbers }
-    ensures { result ≡ head_of (record_of seq entry.now) }
+    ensures { result ≡ summary_of (record_of seq entry.now) }
 {
     let mut numbers = numbers;
     numbers.clear();
     for i in 0..entry.pages.len() {
         add(&mut numbers, entry.pages.number(i));
     }
-    EntryHead {
+    Summary {
         seq,
         next_name: entry.next_name,
         tag: entry.tag,

@@ -1,7 +1,7 @@
 use Rattle.std.proofs.Common.{◌≡◌, ◌+◌, ◌*◌, ◌≤◌, ◌++◌, map, length, drop, vec_len, vec_capacity}
 use Rattle.pm3_journal.specs.Entered.{record_of}
 use Rattle.pm3_journal.specs.Format.{body, parts_bytes}
-use Rattle.pm3_journal.specs.Heads.{part_of}
+use Rattle.pm3_journal.specs.Summaries.{part_of}
 use Rattle.pm3_journal.proofs.encoding.encode.Given as goal
 
 abbrev pub invariant-loop-i : goal.invariant-loop-i

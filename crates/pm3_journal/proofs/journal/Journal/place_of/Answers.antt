@@ -3,5 +3,5 @@ use Rattle.pm3_journal.proofs.journal.Journal.place_of.Goals as goal
 
 pub overflow_add-result : goal.overflow_add-result
 overflow_add-result g c =
-    let here : slice_index_or c.self.inside.places.items c.args.page None ≡ Some c.in-Some-Some.place = search rules in
+    let here : slice_index_or c.self.inside.offsets.items c.args.page None ≡ Some c.in-Some-Some.place = search rules in
     omega (arith, c.self.invariant.2 c.args.page c.in-Some-Some.place here, c.requires)

@@ -1,7 +1,0 @@
-use Rattle.std.proofs.Common.{◌-◌, arith, length}
-use Rattle.pm3_journal.specs.Reading.{piece}
-use Rattle.pm3_journal.proofs.Placing.{stands_short}
-use Rattle.pm3_journal.proofs.reading.next_front.Goals as goal
-
-pub returns-then-len-at-lt48-clause-none : goal.returns-then-len-at-lt48-clause-none
-returns-then-len-at-lt48-clause-none g c bytes told = stands_short c.args.due (length bytes - c.args.at) (piece c.args.at 48 bytes) (omega (arith, c.requires.len bytes told))
