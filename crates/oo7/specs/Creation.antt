@@ -1,34 +1,47 @@
--- What the making of a store leaves, and why it is refused.
-use Rattle.std.specs.Prelude.{◌≡◌, ◌⊎◌, ℕ, ◌<◌, List, length, option_map, Result, Ok, Err, ⊤}
+-- What the making of a store leaves of its two files.
+use Rattle.std.specs.Prelude.{◌≡◌, ◌⊎◌, ℕ, ◌<◌, List, length, Result, Ok, Err, ⊤}
 use Rattle.pm3_disk.specs.Content.{IfTold}
+use Rattle.pm3_disk.specs.Devices.{HasFailed, HasNotFailed, Holds, IsKept, WasEmpty}
+use Rattle.pm3_disk.specs.declared.outside.Disk.{Ghosts}
 use Rattle.pm3_types.specs.Fields.{Fields}
-use Rattle.oo7.specs.Device.{Device, HasFailed}
-use Rattle.pm3_journal.specs.Head.{empty_journal}
+use Rattle.pm3_journal.specs.FileHead.{empty_journal}
 use Rattle.pm3_pagefile.specs.EmptyFile.{page_file}
 use Rattle.oo7.specs.declared.store.CreateFault.{CreateFault}
 use Rattle.oo7.specs.declared.store.CreateFault.TheVariants.{Exists, PageFault, JournalFault}
 
--- the device tells these bytes now, where it tells any
-abbrev pub Holds : List ℕ → Device → Type 0
-Holds bytes device = device.now ≡ option_map (λ _. bytes) device.before
+-- the two files of a store
+pub record Files (D : Type 0) : Type 0 where
+  pub pages : D
+  pub journal : D
 
--- there was nothing in it
-abbrev pub WasEmpty : Device → Type 0
-WasEmpty device = IfTold device.before (λ bytes. length bytes ≡ 0)
+module _ {D R : Type 0} (g : Ghosts D R) where
+  -- they hold a store of so many pages, and no object
+  abbrev pub AreCreated : ℕ → List Fields → Files D → Files D → Type 0
+  AreCreated count catalog old new = Holds g (page_file count catalog) old.pages new.pages × Holds g (empty_journal count) old.journal new.journal
 
--- it tells what it told
-abbrev pub IsKept : Device → Type 0
-IsKept device = device.now ≡ device.before
+  -- Neither file has counted a fault.
+  abbrev pub NoneHasFailed : Files D → Files D → Type 0
+  NoneHasFailed old new = HasNotFailed g old.pages new.pages × HasNotFailed g old.journal new.journal
 
--- the two files of a store of so many pages
-abbrev pub AreCreated : ℕ → List Fields → Device → Device → Type 0
-AreCreated count catalog pages journal = Holds (page_file count catalog) pages × Holds (empty_journal count) journal
+  -- A page file whose length couldn't be read is left as it was, and so is the journal. One that failed later was empty,
+  -- and the journal had been made by then.
+  abbrev pub PagesHaveFailed : ℕ → Files D → Files D → Type 0
+  PagesHaveFailed count old new =
+      HasFailed g old.pages new.pages × HasNotFailed g old.journal new.journal
+      × ((IsKept g old.pages new.pages × (new.journal ≡ old.journal)) ⊎ (WasEmpty g old.pages × Holds g (empty_journal count) old.journal new.journal))
 
--- The making of a store looks at the length, then makes the journal, then the page file: each fault leaves
--- what comes after it as it was. `unused` says that no call was made on the journal.
-abbrev pub CreationEnds : ℕ → List Fields → Device → Device → Type 0 → Result ⊤ CreateFault → Type 0
-CreationEnds count catalog pages journal unused (Ok _) = WasEmpty pages × AreCreated count catalog pages journal
-CreationEnds count catalog pages journal unused (Err (Exists len)) =
-    (0 < len) × IfTold pages.before (λ bytes. length bytes ≡ len) × IsKept pages × unused
-CreationEnds count catalog pages journal unused (Err PageFault) = HasFailed pages × (unused ⊎ Holds (empty_journal count) journal)
-CreationEnds count catalog pages journal unused (Err JournalFault) = WasEmpty pages × HasFailed journal × IsKept pages
+  -- The journal failed: the page file was empty, and is still.
+  abbrev pub JournalHasFailed : Files D → Files D → Type 0
+  JournalHasFailed old new = WasEmpty g old.pages × HasFailed g old.journal new.journal × HasNotFailed g old.pages new.pages × IsKept g old.pages new.pages
+
+  -- The page file has bytes: it is left as it was, and no call is made on the journal.
+  abbrev pub HasStore : (ℕ → Type 0) → Files D → Files D → Type 0
+  HasStore P old new =
+      IfTold (g.content old.pages) (λ bytes. P (length bytes)) × IsKept g old.pages new.pages × HasNotFailed g old.pages new.pages × (new.journal ≡ old.journal)
+
+  -- The making looks at the length, then makes the journal, then the page file: each fault leaves what comes after it.
+  abbrev pub CreationEnds : ℕ → List Fields → Files D → Files D → Result ⊤ CreateFault → Type 0
+  CreationEnds count catalog old new (Ok _) = WasEmpty g old.pages × AreCreated count catalog old new × NoneHasFailed old new
+  CreationEnds count catalog old new (Err (Exists len)) = (0 < len) × HasStore (λ length. length ≡ len) old new
+  CreationEnds count catalog old new (Err PageFault) = PagesHaveFailed count old new
+  CreationEnds count catalog old new (Err JournalFault) = JournalHasFailed old new

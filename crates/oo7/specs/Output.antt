@@ -1,6 +1,5 @@
 -- What the program prints, and the status that it ends with.
-use Rattle.std.specs.Prelude.{◌≡◌, ◌⊎◌, ℕ, List, [], ◌∷◌, ◌++◌, take, option_map, Result, Ok, Err, ⊤, codes}
-use Rattle.oo7.specs.Device.{Device, HasFailed}
+use Rattle.std.specs.Prelude.{ℕ, List, [], ◌∷◌, ◌++◌, Result, Ok, Err, ⊤, codes}
 use Rattle.oo7.specs.declared.refusal.Refusal.{Refusal}
 use Rattle.oo7.specs.declared.refusal.Refusal.TheVariants.{Usage, PageFault, JournalFault, Memory, Exists, Later}
 
@@ -38,9 +37,3 @@ status_of (Err refusal) = refused_status refusal
 abbrev pub printed_of : Outcome → List ℕ
 printed_of (Ok _) = []
 printed_of (Err refusal) = fault_line refusal
-
--- the sink has taken these bytes, or a front of them where it failed
-abbrev pub Prints : List ℕ → Device → Type 0
-Prints bytes sink =
-    (sink.now ≡ option_map (λ taken. taken ++ bytes) sink.before)
-    ⊎ (HasFailed sink × ((count : ℕ) × (sink.now ≡ option_map (λ taken. taken ++ take count bytes) sink.before)))

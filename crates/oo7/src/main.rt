@@ -4,8 +4,13 @@
 //! which words are a command, what is printed, with which status it ends, and what the two files then hold.
 #![tactic(auto)]
 
+ghost use Rattle.std.specs.Prelude.{◌≡◌, codes, IfOk};
+ghost use Rattle.std.specs.Vec.Iter.{into_iter_items};
+ghost use Rattle.pm3_disk.specs.Paths.{path_of};
+
 // From the words to the answer.
 mod gate;
+mod outside;
 mod refusal;
 mod report;
 mod top;
@@ -17,51 +22,30 @@ mod store;
 mod tests;
 
 use crate::gate::OpenGate;
+use crate::outside::Outside;
 use crate::refusal::Refusal;
-use crate::top::oo7;
 use pm3_disk::{FileDisk, Memory, StdSink, StdSource};
+use std::alloc::Global;
+use std::env::Args;
 use std::process::ExitCode;
 use std::{env, io};
 
 fn main(rt: HostRuntime) -> ExitCode {
-    let Ok(outside) = open_outside(&rt) else {
-        return ExitCode::from(Refusal::Memory.status());
-    };
-    let Outside {
-        words,
-        pages,
-        journal,
-        mut source,
-        mut sink,
-    } = outside;
-    let words = words.as_slice();
-    let done = oo7(
-        &rt,
-        rt.alloc(),
-        words,
-        pages,
-        journal,
-        &mut source,
-        &mut sink,
-        &OpenGate,
-    );
-    ExitCode::from(done.status)
+    match open_outside(&rt) {
+        Ok(outside) => outside.end(&rt, rt.alloc(), &OpenGate),
+        Err(Memory) => ExitCode::from(Refusal::Memory.status()),
+    }
 }
 
-/// What the program works on.
-#[derive(Drop)]
-struct Outside {
-    words: Vec<String>,
-    pages: FileDisk<HostRuntime>,
-    journal: FileDisk<HostRuntime>,
-    source: StdSource<HostRuntime>,
-    sink: StdSink<HostRuntime>,
-}
-
-/// The words, the two files of the current folder, and the standard streams.
-fn open_outside(rt: &HostRuntime) -> Result<Outside, Memory> {
+/// The arguments, the two files of the current folder, and the standard streams.
+fn open_outside(
+    rt: &HostRuntime,
+) -> Result<Outside<FileDisk<HostRuntime>, StdSource<HostRuntime>, StdSink<HostRuntime>>, Memory>
+    ensures pages { IfOk result (λ outside. path_of outside.pages ≡ codes "oo7.pages") }
+    ensures journal { IfOk result (λ outside. path_of outside.journal ≡ codes "oo7.journal") }
+{
     Ok(Outside {
-        words: words_of(rt)?,
+        arguments: arguments_of(rt)?,
         pages: FileDisk::at(rt, rt.alloc(), "oo7.pages")?,
         journal: FileDisk::at(rt, rt.alloc(), "oo7.journal")?,
         source: StdSource::new(rt)?,
@@ -69,11 +53,18 @@ fn open_outside(rt: &HostRuntime) -> Result<Outside, Memory> {
     })
 }
 
-/// The words after the program's name. Where one of them is no text there are none: no command has such a word.
-fn words_of(rt: &HostRuntime) -> Result<Vec<String>, Memory> {
+/// The arguments, the program's name first. Where one of them is no text there are none: no command has such a word.
+fn arguments_of(rt: &HostRuntime) -> Result<Vec<String>, Memory> {
     match env::args(rt) {
-        Ok(words) => Ok(words.skip(1).collect(rt.alloc())?),
+        Ok(arguments) => all_of(rt.alloc(), arguments),
         Err(error) if error.kind() == io::ErrorKind::OutOfMemory => Err(Memory),
         Err(_) => Ok(Vec::new(rt.alloc())),
     }
+}
+
+/// All arguments.
+fn all_of(alloc: Global, arguments: Args) -> Result<Vec<String>, Memory>
+    ensures { IfOk result (λ all. all.items ≡ into_iter_items arguments) }
+{
+    Ok(arguments.collect(alloc)?)
 }

@@ -1,7 +1,7 @@
 //! How a command's end is told.
 ghost use Rattle.std.specs.Prelude.{◌≡◌};
-ghost use Rattle.oo7.specs.Device.{IsOnward, watched};
-ghost use Rattle.oo7.specs.Output.{printed_of, status_of, Prints};
+ghost use Rattle.pm3_disk.specs.Printing.{Prints};
+ghost use Rattle.oo7.specs.Output.{printed_of, status_of};
 
 use crate::refusal::Refusal;
 use pm3_disk::Sink;
@@ -9,8 +9,7 @@ use pm3_disk::Sink;
 /// Prints the line of a refusal, and answers the status of the outcome.
 pub fn report<K: Sink>(sink: &mut K, outcome: Result<(), Refusal>) -> u8
     ensures status { result ≡ status_of outcome }
-    ensures output { Prints (printed_of outcome) (watched K.taken K.faults sink.old sink.new) }
-    ensures onward { IsOnward (watched K.taken K.faults sink.old sink.new) }
+    ensures output { Prints K.Sink (printed_of outcome) sink.old sink.new }
 {
     match outcome {
         Ok(()) => 0,
@@ -23,8 +22,7 @@ pub fn report<K: Sink>(sink: &mut K, outcome: Result<(), Refusal>) -> u8
 
 /// Hands bytes to the sink, piece by piece, until it has them all or fails.
 fn print<K: Sink>(sink: &mut K, bytes: &[u8])
-    ensures output { Prints bytes.now (watched K.taken K.faults sink.old sink.new) }
-    ensures onward { IsOnward (watched K.taken K.faults sink.old sink.new) }
+    ensures output { Prints K.Sink bytes.now sink.old sink.new }
 {
     let mut done = 0;
     while done < bytes.len() {

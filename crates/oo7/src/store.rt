@@ -1,24 +1,28 @@
 //! A new store: its journal and its page file.
-ghost use Rattle.std.specs.Prelude.{◌≡◌, ◌≤◌, OnOk};
-ghost use Rattle.pm3_disk.specs.Moments.{IsSettled};
+ghost use Rattle.std.specs.Prelude.{◌≤◌, OnOk};
+ghost use Rattle.oo7.specs.Answer.{AreOnward, AreSynced};
 ghost use Rattle.oo7.specs.Creation.{CreationEnds};
-ghost use Rattle.oo7.specs.Device.{IsOnward, watched};
 
 use pm3_disk::Disk;
 use pm3_types::Catalog;
+use thiserror::Error;
 
 /// Why a store wasn't made.
-#[derive(Clone, Copy, Debug, PartialEq, Eq)]
+#[derive(Clone, Copy, Debug, PartialEq, Eq, Error)]
 pub enum CreateFault {
     /// The page file has bytes already, so many.
+    #[error("the page file has {len} bytes already")]
     Exists { len: u64 },
     /// The page file failed.
+    #[error("the page file failed")]
     PageFault,
     /// The journal failed.
+    #[error("the journal failed")]
     JournalFault,
 }
 
-/// Makes the two files of a store without objects, the journal first.
+/// Makes the two files of a store without objects, the journal first. A page file with bytes, or one whose length can't be
+/// read, is left as it is.
 pub fn create<D: Disk>(
     pages: &mut D,
     journal: &mut D,
@@ -27,11 +31,9 @@ pub fn create<D: Disk>(
 ) -> Result<(), CreateFault>
     requires few { 16 ≤ count }
     requires most { count ≤ 16384 }
-    ensures ends { CreationEnds count catalog.now (watched D.content D.faults pages.old pages.new) (watched D.content D.faults journal.old journal.new) (journal.new ≡ journal.old) result }
-    ensures pages_onward { IsOnward (watched D.content D.faults pages.old pages.new) }
-    ensures journal_onward { IsOnward (watched D.content D.faults journal.old journal.new) }
-    ensures pages_settled { OnOk result (IsSettled (D.content pages.new) (D.images pages.new (D.moment pages.new))) }
-    ensures journal_settled { OnOk result (IsSettled (D.content journal.new) (D.images journal.new (D.moment journal.new))) }
+    ensures ends { CreationEnds D.Disk count catalog.now (record { pages = pages.old; journal = journal.old }) (record { pages = pages.new; journal = journal.new }) result }
+    ensures onward { AreOnward D.Disk (record { pages = pages.old; journal = journal.old }) (record { pages = pages.new; journal = journal.new }) }
+    ensures synced { OnOk result (AreSynced D.Disk (record { pages = pages.new; journal = journal.new })) }
 {
     match pages.len() {
         Ok(0) => {}

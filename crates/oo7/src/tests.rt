@@ -1,8 +1,11 @@
 //! The program on devices in memory.
 use crate::gate::{Gate, OpenGate};
+use crate::outside::Outside;
 use crate::top::oo7;
-use pm3_disk::{MemoryDisk, MemorySink, MemorySource};
+use pm3_disk::{FileDisk, MemoryDisk, MemorySink, MemorySource};
 use std::alloc::Global;
+use std::fs;
+use std::process::ExitCode;
 use std::test::Fail;
 use std::thread::Threads;
 
@@ -251,4 +254,62 @@ fn a_sink_that_fails_has_a_front_of_the_line(rt: HostRuntime) -> Result<(), Fail
 #[test]
 fn an_open_gate_lets_everybody_pass() {
     OpenGate.pass(0, 1);
+}
+
+/// Whether a file has so many bytes, and these in front.
+fn begins(rt: &HostRuntime, path: &str, len: usize, front: &[u8]) -> Result<bool, Fail> {
+    let bytes = fs::read(rt, path)?;
+    Ok(bytes.len() == len && bytes.get(..front.len()) == Some(front))
+}
+
+/// Two files of a folder, with the words of a line.
+fn on_files(
+    rt: &HostRuntime,
+    line: &str,
+) -> Result<Outside<FileDisk<HostRuntime>, MemorySource, MemorySink>, Fail> {
+    let alloc = rt.alloc();
+    let (Ok(pages), Ok(journal)) = (
+        FileDisk::at(rt, alloc, "oo7_real_files/oo7.pages"),
+        FileDisk::at(rt, alloc, "oo7_real_files/oo7.journal"),
+    ) else {
+        return Err("no memory".into());
+    };
+    Ok(Outside {
+        arguments: words_of(alloc, line)?,
+        pages,
+        journal,
+        source: MemorySource::new(Vec::new(alloc), Vec::new(alloc)),
+        sink: MemorySink::new(alloc, Vec::new(alloc)),
+    })
+}
+
+#[test]
+fn a_store_is_made_in_two_real_files(rt: HostRuntime) -> Result<(), Fail> {
+    let _ = fs::remove_dir_all(&rt, "oo7_real_files");
+    fs::create_dir(&rt, "oo7_real_files")?;
+    let made = on_files(&rt, "oo7 create 64")?.end(&rt, rt.alloc(), &OpenGate);
+    assert!(rt; made == ExitCode::SUCCESS);
+    assert!(rt; begins(&rt, "oo7_real_files/oo7.pages", 262_144, b"PM3PAGES")?);
+    assert!(rt; begins(&rt, "oo7_real_files/oo7.journal", 40, &JOURNAL_OF_64)?);
+    let again = on_files(&rt, "oo7 create 64")?.end(&rt, rt.alloc(), &OpenGate);
+    assert!(rt; again == ExitCode::from(9));
+    fs::remove_dir_all(&rt, "oo7_real_files")?;
+    Ok(())
+}
+
+#[test]
+fn a_page_file_whose_length_cannot_be_read_is_left_alone(rt: HostRuntime) -> Result<(), Fail> {
+    let ran = run(
+        &rt,
+        "create 64",
+        Setting {
+            pages: &[7],
+            pages_fails: &[0],
+            ..SOUND
+        },
+    )?;
+    assert_eq!(rt; ran.status, 3);
+    assert_eq!(rt; ran.pages.bytes(), [7].as_slice());
+    assert_eq!(rt; ran.journal.calls(), 0);
+    Ok(())
 }

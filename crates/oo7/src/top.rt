@@ -1,8 +1,6 @@
 //! The call that the program makes.
-ghost use Rattle.std.specs.Prelude.{◌≡◌, ◌↔◌, ◌⊎◌, ◌≤◌, None, Some, OnOk};
-ghost use Rattle.pm3_disk.specs.Moments.{IsSettled};
-ghost use Rattle.oo7.specs.Answer.{Answers, Completes, HasReason, Makes, Spares};
-ghost use Rattle.oo7.specs.Device.{IsOnward, watched};
+ghost use Rattle.std.specs.Prelude.{◌≡◌, ◌↔◌, ◌≤◌, None, Some, OnOk};
+ghost use Rattle.oo7.specs.Answer.{AreOnward, AreSynced, Answers, Completes, HasReason, Makes, Spares};
 ghost use Rattle.oo7.specs.Words.{command_of, texts};
 
 use crate::gate::Gate;
@@ -24,28 +22,26 @@ pub struct Done<D> {
 }
 
 /// Does what the words after the program's name ask for, on a page file and a journal. It prints to the sink,
-/// and reads from the source.
+/// and reads from the source. The runtime and the gate are for commands with workers, which aren't there yet.
 pub fn oo7<R: Threads + Sync, D: Disk + Send, S: Source, K: Sink, G: Gate>(
-    rt: &R,
+    _rt: &R,
     alloc: Global,
     words: &[String],
     mut pages: D,
     mut journal: D,
     source: &mut S,
     sink: &mut K,
-    gate: &G,
+    _gate: &G,
 ) -> Done<D>
 where
     D::Reader: Send,
-    ensures answer { Answers (command_of (texts words.now)) result.status (watched D.content D.faults pages result.pages) (watched D.content D.faults journal result.journal) (watched K.taken K.faults sink.old sink.new) (result.pages ≡ pages) (result.journal ≡ journal) }
+    ensures answer { Answers D.Disk K.Sink (record { command = command_of (texts words.now); before = record { pages = pages; journal = journal }; after = record { pages = result.pages; journal = result.journal }; status = result.status }) sink.old sink.new }
     ensures usage { (result.status ≡ 2) ↔ (command_of (texts words.now) ≡ None) }
     ensures later { (result.status ≡ 14) ↔ (command_of (texts words.now) ≡ Some Command.NotYet) }
     ensures unread { source.new ≡ source.old }
-    ensures completes { Completes (command_of (texts words.now)) result.status (watched D.content D.faults pages result.pages) (watched D.content D.faults journal result.journal) }
-    ensures spares { Spares (command_of (texts words.now)) result.status (watched D.content D.faults pages result.pages) }
-    ensures pages_last { result.status ≡ 0 → IsSettled (D.content result.pages) (D.images result.pages (D.moment result.pages)) }
-    ensures journal_last { result.status ≡ 0 → IsSettled (D.content result.journal) (D.images result.journal (D.moment result.journal)) }
-    ensures makes { Makes (command_of (texts words.now)) result.status (watched D.content D.faults pages result.pages) (watched D.content D.faults journal result.journal) }
+    ensures completes { Completes D.Disk (record { command = command_of (texts words.now); before = record { pages = pages; journal = journal }; after = record { pages = result.pages; journal = result.journal }; status = result.status }) }
+    ensures spares { Spares D.Disk (record { command = command_of (texts words.now); before = record { pages = pages; journal = journal }; after = record { pages = result.pages; journal = result.journal }; status = result.status }) }
+    ensures makes { Makes D.Disk (record { command = command_of (texts words.now); before = record { pages = pages; journal = journal }; after = record { pages = result.pages; journal = result.journal }; status = result.status }) }
 {
     let outcome = perform(alloc, words, &mut pages, &mut journal);
     let status = report(sink, outcome);
@@ -63,11 +59,9 @@ fn perform<D: Disk>(
     pages: &mut D,
     journal: &mut D,
 ) -> Result<(), Refusal>
-    ensures reason { HasReason (command_of (texts words.now)) (watched D.content D.faults pages.old pages.new) (watched D.content D.faults journal.old journal.new) (pages.new ≡ pages.old) (journal.new ≡ journal.old) result }
-    ensures pages_onward { IsOnward (watched D.content D.faults pages.old pages.new) }
-    ensures journal_onward { IsOnward (watched D.content D.faults journal.old journal.new) }
-    ensures pages_last { OnOk result (IsSettled (D.content pages.new) (D.images pages.new (D.moment pages.new))) }
-    ensures journal_last { OnOk result (IsSettled (D.content journal.new) (D.images journal.new (D.moment journal.new))) }
+    ensures reason { HasReason D.Disk (command_of (texts words.now)) (record { pages = pages.old; journal = journal.old }) (record { pages = pages.new; journal = journal.new }) result }
+    ensures onward { AreOnward D.Disk (record { pages = pages.old; journal = journal.old }) (record { pages = pages.new; journal = journal.new }) }
+    ensures synced { OnOk result (AreSynced D.Disk (record { pages = pages.new; journal = journal.new })) }
 {
     match read_command(words) {
         Some(Command::Create(count)) => create(alloc, pages, journal, count),
@@ -80,14 +74,12 @@ fn perform<D: Disk>(
 fn create<D: Disk>(alloc: Global, pages: &mut D, journal: &mut D, count: u32) -> Result<(), Refusal>
     requires few { 16 ≤ count }
     requires most { count ≤ 16384 }
-    ensures reason { HasReason (Some (Command.Create count)) (watched D.content D.faults pages.old pages.new) (watched D.content D.faults journal.old journal.new) (pages.new ≡ pages.old) (journal.new ≡ journal.old) result }
-    ensures pages_onward { IsOnward (watched D.content D.faults pages.old pages.new) }
-    ensures journal_onward { IsOnward (watched D.content D.faults journal.old journal.new) }
-    ensures pages_last { OnOk result (IsSettled (D.content pages.new) (D.images pages.new (D.moment pages.new))) }
-    ensures journal_last { OnOk result (IsSettled (D.content journal.new) (D.images journal.new (D.moment journal.new))) }
+    ensures reason { HasReason D.Disk (Some (Command.Create count)) (record { pages = pages.old; journal = journal.old }) (record { pages = pages.new; journal = journal.new }) result }
+    ensures onward { AreOnward D.Disk (record { pages = pages.old; journal = journal.old }) (record { pages = pages.new; journal = journal.new }) }
+    ensures synced { OnOk result (AreSynced D.Disk (record { pages = pages.new; journal = journal.new })) }
 {
     let Ok(catalog) = oo7_schema::catalog(alloc) else {
-        return Err(Refusal::Memory);
+        unreachable!()
     };
     match store::create(pages, journal, count, &catalog) {
         Ok(()) => Ok(()),

@@ -1,11 +1,12 @@
-use Rattle.std.proofs.Common.{◌≡◌, ◌-◌, ◌≤◌, ◌++◌, length, take, option_map}
+use Rattle.std.proofs.Common.{◌≡◌, ◌-◌, ◌≤◌, length, take}
+use Rattle.pm3_disk.specs.Printing.{HasTaken}
 use Rattle.oo7.proofs.report.print.Given as goal
 
--- the sink has taken what was handed to it, and its count hasn't fallen
+-- the sink has taken what was handed to it, and has counted no fault
 abbrev pub invariant-loop-done : goal.invariant-loop-done
 invariant-loop-done g l = record {
-  taken : g.K.Sink.taken l.sink ≡ option_map (λ taken. taken ++ take l.done l.bytes) (g.K.Sink.taken l.fn.sink);
-  faults : g.K.Sink.faults l.fn.sink ≤ g.K.Sink.faults l.sink;
+  taken : HasTaken g.K.Sink (take l.done l.bytes) l.fn.sink l.sink;
+  faults : g.K.Sink.faults l.sink ≡ g.K.Sink.faults l.fn.sink;
   within : l.done ≤ length l.bytes;
 }
 
