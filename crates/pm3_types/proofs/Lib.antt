@@ -11,6 +11,10 @@ pub mod OneObject
 pub mod Writes
 pub mod PlaceWrites
 pub mod Placings
+pub mod PassRecords
+pub mod PassCarried
+pub mod PassClosed
+pub mod PassLater
 -- Lemmas of this crate.
 mod Padding
 mod Reading
@@ -19,3 +23,4 @@ mod Dumping
 mod NamesIn
 mod Meeting
 mod TriedImages
+mod TriedMoves

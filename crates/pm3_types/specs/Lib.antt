@@ -17,3 +17,7 @@ pub mod PageForm
 pub mod Shown
 pub mod ImageLaws
 pub mod Objects
+pub mod Least
+pub mod PassSets
+pub mod PassMoves
+pub mod PassShown

@@ -19,6 +19,7 @@ mod type_map;
 
 // The places of records, and laws of the definitions.
 mod laws;
+mod passes;
 mod places;
 #[cfg(test)]
 mod tests;
@@ -28,6 +29,7 @@ pub use catalogs::{AddFault, Catalog, CatalogFault};
 pub use laws::{
     dumps, numberings, pages, placing_law, reached_names, shown_law, starts_law, write_law,
 };
+pub use passes::{pass_law, standing_law};
 pub use places::Place;
 pub use shortage::Memory;
 pub use type_map::{Tail, TypeMap, TypeNo};
