@@ -16,3 +16,4 @@ mod ReferencePairs
 mod FileForms
 mod Faulty
 mod SameBits
+mod SheetsOf

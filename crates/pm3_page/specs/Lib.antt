@@ -13,3 +13,4 @@ pub mod FormLaws
 pub mod HomeLaws
 pub mod Faults
 pub mod Head
+pub mod PageSheets

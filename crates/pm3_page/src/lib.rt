@@ -29,6 +29,7 @@ mod collection_tests;
 mod marks;
 mod page_set;
 mod pages;
+mod sheets;
 mod slots;
 
 // Laws of both.
@@ -44,3 +45,4 @@ pub use page_file::ImageFault;
 pub use page_set::PageSet;
 pub use pages::Pages;
 pub use pm3_core::BASE;
+pub use sheets::{pages_are_low, sheets_law};
