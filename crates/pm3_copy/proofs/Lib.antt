@@ -1,0 +1,9 @@
+pub mod Adding
+pub mod Marking
+pub mod Listing
+pub mod Searching
+pub mod Wholes
+pub mod Collecting
+pub mod References
+pub mod WorkLists
+pub mod Turning

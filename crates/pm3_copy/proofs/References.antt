@@ -1,0 +1,156 @@
+-- What is found by one loop after another: the places of an object, the objects of an image, the images.
+use Rattle.std.proofs.Common.{◌≡◌, ◌≢◌, ℕ, ◌+◌, ◌*◌, ◌-◌, ◌<◌, ◌≤◌, ◌⊎◌, Bool, true, false, List, Option, None, Some, is_some, slice_index, refl, sym, ap, subst, ◌∙◌, arith, inl, inr}
+use Rattle.std.proofs.lemmas.Bool.{cases_lt, cases_eq, false≢true}
+use Rattle.std.specs.FinMap as map
+use Rattle.std.specs.FinSet as set
+use Rattle.std.specs.Ordering.{nat_cmp}
+use Rattle.std.specs.List.{Contains}
+use Rattle.pm3_types.specs.Fields.{Fields}
+use Rattle.pm3_types.specs.declared.type_map.Tail.{Tail}
+use Rattle.pm3_types.specs.declared.type_map.Tail.TheVariants.{Empty, Refs, Bytes}
+use Rattle.pm3_types.specs.Layout.{Sheet, PageImage, begins_at, is_address, page_in, word_in, size_at, size_by, tail_words}
+use Rattle.pm3_types.specs.PageForm.{IsReferenceIn, IsTailReference, map_at, tail_at}
+use Rattle.pm3_types.proofs.Addressing as addressing
+use Rattle.pm3_page.specs.PageMap.{Images, IsAtHome}
+use Rattle.pm3_copy.specs.Finds.{Finds, Adds}
+use Rattle.pm3_copy.specs.References.{RefersIn, RootsOn, ObjectsOn, RefersOn, RefersFrom}
+use Rattle.pm3_copy.specs.Whole.{IsObjectOf}
+use Rattle.pm3_copy.proofs.Adding.{adds_none, adds_then, adds_as}
+use Rattle.pm3_copy.proofs.Wholes.{address_of, page_is, object_of, object_begins, none_some}
+
+tail_within : (tail : Tail) (len k : ℕ) → IsTailReference tail len k → k < tail_words tail len
+tail_within Empty len k is = absurd is
+tail_within Refs len k is = is
+tail_within Bytes len k is = absurd is
+
+-- the place of a reference lies in the object
+pub within_size : (o : Option Fields) (len k : ℕ) → IsReferenceIn o len k → 2 + k < size_by o len
+within_size None len k is = absurd is
+within_size (Some map) len k (inl field) = omega (arith, field.0)
+within_size (Some map) len k (inr item) = (let low = tail_within map.tail len (k - map.count) item.1 in omega (arith, item.0))
+
+-- one of the first n places of an object has this word
+pub record RefersBelow (catalog : List Fields) (sheet : Sheet) (s n b : ℕ) : Type 0 where
+  pub place : ℕ
+  pub low : place < n
+  pub reference : IsReferenceIn (map_at catalog sheet s) (tail_at sheet s) place
+  pub is : slice_index sheet.words (s + 2 + place) ≡ b
+
+module _ (catalog : List Fields) (sheet : Sheet) (s : ℕ) where
+  pub places_none : (found : Finds) → Adds (RefersBelow catalog sheet s 0) found found
+  places_none found = adds_none (RefersBelow catalog sheet s 0) found (λ b there r. omega (arith, r.low))
+
+  pub places_more : (o : Option Fields) (len n : ℕ) (old now new : Finds) → o ≡ map_at catalog sheet s → len ≡ tail_at sheet s → Adds (RefersBelow catalog sheet s n) old now
+      → Adds (λ b. IsReferenceIn o len n × (slice_index sheet.words (s + 2 + n) ≡ b)) now new → Adds (RefersBelow catalog sheet s (n + 1)) old new
+  places_more o len n old now new map_is len_is first second =
+      adds_then (RefersBelow catalog sheet s n) (λ b. IsReferenceIn o len n × (slice_index sheet.words (s + 2 + n) ≡ b)) (RefersBelow catalog sheet s (n + 1)) old now new first second
+      (λ b there r. parts b r) (λ b r. record { place = r.place; low = omega (arith, r.low); reference = r.reference; is = r.is })
+      (λ b p. record { place = n; low = omega arith; reference = to p.0; is = p.1 })
+    where
+      to : IsReferenceIn o len n → IsReferenceIn (map_at catalog sheet s) (tail_at sheet s) n
+      to is = (let P : ℕ → Type 0 = λ l. IsReferenceIn (map_at catalog sheet s) l n in subst P len_is (let Q : Option Fields → Type 0 = λ m. IsReferenceIn m len n in subst Q map_is is))
+
+      back : IsReferenceIn (map_at catalog sheet s) (tail_at sheet s) n → IsReferenceIn o len n
+      back is = (let Q : Option Fields → Type 0 = λ m. IsReferenceIn m len n in subst Q (sym map_is) (let P : ℕ → Type 0 = λ l. IsReferenceIn (map_at catalog sheet s) l n in subst P (sym len_is) is))
+
+      parts : (b : ℕ) → RefersBelow catalog sheet s (n + 1) b → RefersBelow catalog sheet s n b ⊎ (IsReferenceIn o len n × (slice_index sheet.words (s + 2 + n) ≡ b))
+      parts b r = elim (cases_eq r.place n) [
+        | inl same ↦ inr (back (let P : ℕ → Type 0 = λ k. IsReferenceIn (map_at catalog sheet s) (tail_at sheet s) k in subst P same r.reference), ap (λ k. slice_index sheet.words (s + 2 + k)) (sym same) ∙ r.is)
+        | inr apart ↦ inl (record { place = r.place; low = omega (arith, r.low); reference = r.reference; is = r.is })
+      ]
+
+  pub places_all : (n : ℕ) (old new : Finds) → n + 2 ≡ size_at catalog sheet s → Adds (RefersBelow catalog sheet s n) old new → Adds (RefersIn catalog sheet s) old new
+  places_all n old new size adds =
+      adds_as (RefersBelow catalog sheet s n) (RefersIn catalog sheet s) old new adds
+      (λ b there r. record { place = r.place; low = (let low = within_size (map_at catalog sheet s) (tail_at sheet s) r.place r.reference in omega arith); reference = r.reference; is = r.is })
+      (λ b r. record { place = r.place; reference = r.reference; is = r.is })
+
+-- one of the objects of an image up to an address leads there
+pub record LeadsUpTo (base : ℕ) (image : PageImage) (Leads : ℕ → ℕ → Type 0) (at b : ℕ) : Type 0 where
+  pub from : ℕ
+  pub low : from ≤ at
+  pub begins : begins_at base image from ≡ true
+  pub leads : Leads from b
+
+module _ (base : ℕ) (image : PageImage) (Leads : ℕ → ℕ → Type 0) where
+  pub objects_none : (found : Finds) → 0 < base → Adds (LeadsUpTo base image Leads 0) found found
+  objects_none found more = adds_none (LeadsUpTo base image Leads 0) found
+      (λ b there r. (let low = addressing.above_base base r.from (address_of base image r.from r.begins) in omega (arith, r.low)))
+
+  pub objects_more : (at next : ℕ) (old now new : Finds) → at < next → begins_at base image next ≡ true → ((m : ℕ) → at < m → m < next → begins_at base image m ≡ false)
+      → Adds (LeadsUpTo base image Leads at) old now → Adds (Leads next) now new → Adds (LeadsUpTo base image Leads next) old new
+  objects_more at next old now new less is between first second =
+      adds_then (LeadsUpTo base image Leads at) (Leads next) (LeadsUpTo base image Leads next) old now new first second parts
+      (λ b r. record { from = r.from; low = omega (arith, r.low); begins = r.begins; leads = r.leads })
+      (λ b l. record { from = next; low = omega arith; begins = is; leads = l })
+    where
+      parts : (b : ℕ) → Contains old.objects b → LeadsUpTo base image Leads next b → LeadsUpTo base image Leads at b ⊎ Leads next b
+      parts b there r = elim (cases_lt at r.from) [
+        | inr low ↦ inl (record { from = r.from; low = low; begins = r.begins; leads = r.leads })
+        | inl above ↦ elim (cases_lt r.from next) [
+          | inl below ↦ absurd (false≢true (sym (between r.from above below) ∙ r.begins))
+          | inr high ↦ inr (let e : r.from ≡ next = omega (arith, r.low) in let P : ℕ → Type 0 = λ a. Leads a b in subst P e r.leads)
+        ]
+      ]
+
+  pub objects_all : (P : ℕ → Type 0) (at : ℕ) (old new : Finds) → ((b : ℕ) → at < b → begins_at base image b ≡ false) → ((b : ℕ) → P b → (a : ℕ) × (begins_at base image a ≡ true) × Leads a b)
+      → ((a b : ℕ) → begins_at base image a ≡ true → Leads a b → P b) → Adds (LeadsUpTo base image Leads at) old new → Adds P old new
+  objects_all P at old new past back on adds =
+      adds_as (LeadsUpTo base image Leads at) P old new adds
+      (λ b there p. (let r = back b p in record { from = r.0; low = at_most r.0 r.1; begins = r.1; leads = r.2 }))
+      (λ b r. on r.from b r.begins r.leads)
+    where
+      at_most : (a : ℕ) → begins_at base image a ≡ true → a ≤ at
+      at_most a is = elim (cases_lt at a) [ inl above ↦ absurd (false≢true (sym (past a above) ∙ is)) | inr low ↦ low ]
+
+-- one of the pages of a set below a number leads there
+pub record LeadsBelow (has : ℕ → Bool) (Leads : ℕ → ℕ → Type 0) (n b : ℕ) : Type 0 where
+  pub page : ℕ
+  pub low : page < n
+  pub there : has page ≡ true
+  pub leads : Leads page b
+
+module _ (has : ℕ → Bool) (Leads : ℕ → ℕ → Type 0) where
+  pub pages_none : (found : Finds) → Adds (LeadsBelow has Leads 0) found found
+  pages_none found = adds_none (LeadsBelow has Leads 0) found (λ b there r. omega (arith, r.low))
+
+  pub pages_more : (n page : ℕ) (old now new : Finds) → n ≤ page → has page ≡ true → ((q : ℕ) → n ≤ q → q < page → has q ≡ false)
+      → Adds (LeadsBelow has Leads n) old now → Adds (Leads page) now new → Adds (LeadsBelow has Leads (page + 1)) old new
+  pages_more n page old now new low is between first second =
+      adds_then (LeadsBelow has Leads n) (Leads page) (LeadsBelow has Leads (page + 1)) old now new first second parts
+      (λ b r. record { page = r.page; low = omega (arith, r.low); there = r.there; leads = r.leads })
+      (λ b l. record { page = page; low = omega arith; there = is; leads = l })
+    where
+      parts : (b : ℕ) → Contains old.objects b → LeadsBelow has Leads (page + 1) b → LeadsBelow has Leads n b ⊎ Leads page b
+      parts b there r = elim (cases_lt r.page n) [
+        | inl before ↦ inl (record { page = r.page; low = before; there = r.there; leads = r.leads })
+        | inr behind ↦ elim (cases_eq r.page page) [
+          | inl same ↦ inr (let P : ℕ → Type 0 = λ p. Leads p b in subst P same r.leads)
+          | inr apart ↦ absurd (false≢true (sym (between r.page behind (omega (arith, r.low))) ∙ r.there))
+        ]
+      ]
+
+  pub pages_all : (P : ℕ → Type 0) (n : ℕ) (old new : Finds) → ((q : ℕ) → n ≤ q → has q ≡ false) → ((b : ℕ) → P b → (p : ℕ) × (has p ≡ true) × Leads p b)
+      → ((p b : ℕ) → has p ≡ true → Leads p b → P b) → Adds (LeadsBelow has Leads n) old new → Adds P old new
+  pages_all P n old new past back on adds =
+      adds_as (LeadsBelow has Leads n) P old new adds
+      (λ b there p. (let r = back b p in record { page = r.0; low = at_most r.0 r.1; there = r.1; leads = r.2 }))
+      (λ b r. on r.page b r.there r.leads)
+    where
+      at_most : (p : ℕ) → has p ≡ true → p < n
+      at_most p is = elim (cases_lt p n) [ inl low ↦ low | inr behind ↦ absurd (false≢true (sym (past p behind) ∙ is)) ]
+
+-- an image refers to things by its root slots, or by its objects
+pub by_roots : (catalog : List Fields) (base : ℕ) (image : PageImage) (old new : Finds) → image.page ≡ 2 → Adds (RootsOn image) old new → Adds (RefersOn catalog base image) old new
+by_roots catalog base image old new is adds = adds_as (RootsOn image) (RefersOn catalog base image) old new adds back (λ b r. inl (is, r))
+  where
+    back : (b : ℕ) → Contains old.objects b → RefersOn catalog base image b → RootsOn image b
+    back b there (inl r) = r.1
+    back b there (inr r) = absurd (r.0 is)
+
+pub by_objects : (catalog : List Fields) (base : ℕ) (image : PageImage) (old new : Finds) → image.page ≢ 2 → Adds (ObjectsOn catalog base image) old new → Adds (RefersOn catalog base image) old new
+by_objects catalog base image old new apart adds = adds_as (ObjectsOn catalog base image) (RefersOn catalog base image) old new adds back (λ b r. inr (apart, r))
+  where
+    back : (b : ℕ) → Contains old.objects b → RefersOn catalog base image b → ObjectsOn catalog base image b
+    back b there (inl r) = absurd (apart r.0)
+    back b there (inr r) = r.1

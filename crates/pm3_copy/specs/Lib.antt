@@ -1,0 +1,4 @@
+pub mod Finds
+pub mod Whole
+pub mod References
+pub mod Spreading

@@ -1,0 +1,50 @@
+-- What a pass knows of its sets while it goes from one object to the next.
+use Rattle.std.specs.Prelude.{ℕ, ◌≡◌, ◌⊎◌, ◌↔◌, ◌<◌, ◌≤◌, true, false, List, length, slice_index}
+use Rattle.std.specs.List.{Contains}
+use Rattle.std.specs.FinSet as set
+use Rattle.std.specs.FinMap as map
+use Rattle.std.specs.Ordering.{nat_cmp}
+use Rattle.pm3_types.specs.Fields.{Fields}
+use Rattle.pm3_types.specs.Layout.{page_in}
+use Rattle.pm3_types.specs.Objects.{RefersTo}
+use Rattle.pm3_types.specs.PassSets.{Before, Turns}
+use Rattle.pm3_page.specs.PageMap.{Images}
+use Rattle.pm3_page.specs.PageSheets.{sheets_of}
+use Rattle.pm3_copy.specs.Finds.{Finds}
+use Rattle.pm3_copy.specs.Whole.{IsObjectOf}
+
+-- the images just before a pass
+abbrev pub before_of : Images → Images → set.FinSet nat_cmp → Before
+before_of space written pinned = record { space = sheets_of space; written = sheets_of written; pinned = pinned }
+
+-- all that was found is of the set, and what the finds from the first to the next lead to was found
+pub record IsSpread (InSet : ℕ → Type 0) (Leads : ℕ → ℕ → Type 0) (found : Finds) (first next : ℕ) : Type 0 where
+  pub only : (a : ℕ) → Contains found.list a → InSet a
+  pub closed : (k b : ℕ) → first ≤ k → k < next → k < length found.list → Contains found.objects b → Leads (slice_index found.list k) b → Contains found.list b
+
+-- an object leads to what it refers to and, on a pinned page, to all objects of its page
+abbrev pub LeadsTo : List Fields → ℕ → Images → set.FinSet nat_cmp → ℕ → ℕ → Type 0
+LeadsTo catalog base images pinned a b =
+    RefersTo catalog base (sheets_of images) a b
+    ⊎ ((set.contains pinned (page_in base a) ≡ true) × IsObjectOf base images b × (page_in base b ≡ page_in base a))
+
+-- the pages that were turned, and this one if it is pinned
+abbrev pub TurnsPage : set.FinSet nat_cmp → ℕ → set.FinSet nat_cmp → set.FinSet nat_cmp → Type 0
+TurnsPage pinned page old new =
+    (p : ℕ) → (set.contains new p ≡ true) ↔ ((set.contains old p ≡ true) ⊎ ((p ≡ page) × (set.contains pinned page ≡ true)))
+
+-- all objects of the pages that were turned have been found
+abbrev pub AreWhole : ℕ → Images → set.FinSet nat_cmp → Finds → Type 0
+AreWhole base images turned found = (b : ℕ) → set.contains turned (page_in base b) ≡ true → IsObjectOf base images b → Contains found.list b
+
+-- just the pinned pages on which a promoted object lies
+abbrev pub AreTurned : List Fields → ℕ → Before → set.FinSet nat_cmp → Type 0
+AreTurned catalog base before turned = (p : ℕ) → (set.contains turned p ≡ true) ↔ Turns catalog base before p
+
+-- an object was found that lies on no pinned page and is not among others
+abbrev pub Picks : ℕ → set.FinSet nat_cmp → List ℕ → Finds → ℕ → Type 0
+Picks base pinned but found a = Contains found.list a × (set.contains pinned (page_in base a) ≡ false) × (Contains but a → ⊥)
+
+-- an object of the images refers to it
+abbrev pub RefersFor : List Fields → ℕ → Images → ℕ → ℕ → Type 0
+RefersFor catalog base images a b = RefersTo catalog base (sheets_of images) a b

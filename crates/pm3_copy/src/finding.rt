@@ -1,0 +1,133 @@
+//! What objects, images and pages lead to is found.
+ghost use Rattle.std.specs.Prelude.{◌≡◌, ◌≢◌, ◌+◌, ◌<◌, ◌≤◌, ℕ, true, Some, slice_index};
+ghost use Rattle.std.specs.FinMap as map;
+ghost use Rattle.std.specs.FinSet as set;
+ghost use Rattle.pm3_types.specs.Layout.{PageImage, begins_at, page_in, word_in, size_at};
+ghost use Rattle.pm3_types.specs.PageForm.{IsSound, IsReferenceIn};
+ghost use Rattle.pm3_page.specs.PageMap.{IsAtHome};
+ghost use Rattle.pm3_page.specs.PageSheets.{AreSoundPages};
+ghost use Rattle.pm3_copy.specs.Finds.{Adds};
+ghost use Rattle.pm3_copy.specs.References.{RefersIn, RootsOn, ObjectsOn, RefersOn, RefersFrom};
+ghost use Rattle.pm3_copy.specs.Whole.{IsWhole, IsObjectOf};
+
+use crate::finds::Found;
+use crate::objects::{is_reference_place, map_of, size_of};
+use pm3_page::{Addr, BASE, Image, PageNo, PageSet, Pages};
+use pm3_types::{Catalog, TypeMap};
+
+/// The page of the roots, and the number of root slots.
+const ROOTS_PAGE: PageNo = 2;
+const ROOT_SLOTS: u32 = 16;
+
+/// Finds the objects that the object at `at` refers to.
+pub(crate) fn find_referred(catalog: &Catalog, image: &Image, at: Addr, found: &mut Found)
+    requires object { begins_at BASE image.now at ≡ true }
+    requires whole { IsWhole catalog.now image.now.sheet (word_in BASE at) }
+    ensures { Adds (RefersIn catalog.now image.now.sheet (word_in BASE at)) found.old found.new }
+{
+    let map = map_of(catalog, image, at);
+    let tail = image.tail_len(at);
+    for place in 0..size_of(catalog, image, at) - 2 {
+        find_at_place(map, tail, image, at, place, found);
+    }
+}
+
+/// Finds the object that stands in a place of the object at `at`, if the place is that of a reference.
+fn find_at_place(
+    map: TypeMap,
+    tail: u32,
+    image: &Image,
+    at: Addr,
+    place: u32,
+    found: &mut Found,
+)
+    requires object { begins_at BASE image.now at ≡ true }
+    requires within { word_in BASE at + 2 + place < 512 }
+    ensures { Adds (λ b. IsReferenceIn (Some map) tail place × (slice_index image.now.sheet.words (word_in BASE at + 2 + place) ≡ b)) found.old found.new }
+{
+    if is_reference_place(map, tail, place) {
+        found.find(image.field(at, place));
+    }
+}
+
+/// Finds all objects of an image.
+pub(crate) fn find_objects(image: &Image, found: &mut Found)
+    ensures { Adds (λ b. begins_at BASE image.now b ≡ true) found.old found.new }
+{
+    let mut at = 0;
+    while let Some(next) = image.next(at) {
+        found.find(next);
+        at = next;
+    }
+}
+
+/// Finds the objects that images of other pages refer to.
+pub(crate) fn find_from_images(catalog: &Catalog, images: &Pages, found: &mut Found)
+    requires { AreSoundPages catalog.now BASE 16384 images.now.images }
+    ensures { Adds (RefersFrom catalog.now BASE images.now.images) found.old found.new }
+{
+    let mut from = 0;
+    while let Some(page) = images.next(from) {
+        let Some(image) = images.get(page) else {
+            unreachable!()
+        };
+        find_from_image(catalog, image, found);
+        from = page + 1;
+    }
+}
+
+/// Finds the objects that an image refers to.
+fn find_from_image(catalog: &Catalog, image: &Image, found: &mut Found)
+    requires { IsSound catalog.now BASE 16384 image.now }
+    ensures { Adds (RefersOn catalog.now BASE image.now) found.old found.new }
+{
+    if image.page() == ROOTS_PAGE {
+        find_from_roots(image, found);
+    } else {
+        find_from_objects(catalog, image, found);
+    }
+}
+
+/// Finds the objects in the root slots.
+fn find_from_roots(image: &Image, found: &mut Found)
+    requires { image.now.page ≡ 2 }
+    ensures { Adds (RootsOn image.now) found.old found.new }
+{
+    for slot in 0..ROOT_SLOTS {
+        found.find(image.root(slot));
+    }
+}
+
+/// Finds the objects that the objects of an image refer to.
+fn find_from_objects(catalog: &Catalog, image: &Image, found: &mut Found)
+    requires { IsSound catalog.now BASE 16384 image.now }
+    ensures { Adds (ObjectsOn catalog.now BASE image.now) found.old found.new }
+{
+    let mut at = 0;
+    while let Some(next) = image.next(at) {
+        find_referred(catalog, image, next, found);
+        at = next;
+    }
+}
+
+/// Finds all objects on the pages of a set.
+pub(crate) fn find_on_pages(images: &Pages, pages: &PageSet, found: &mut Found)
+    requires { IsAtHome images.now.images }
+    ensures { Adds (λ b. IsObjectOf BASE images.now.images b × (set.contains pages.now (page_in BASE b) ≡ true)) found.old found.new }
+{
+    let mut from = 0;
+    while let Some(page) = pages.next(from) {
+        find_on_page(images, page, found);
+        from = page + 1;
+    }
+}
+
+/// Finds all objects on a page.
+fn find_on_page(images: &Pages, page: PageNo, found: &mut Found)
+    requires { IsAtHome images.now.images }
+    ensures { Adds (λ b. IsObjectOf BASE images.now.images b × (page_in BASE b ≡ page)) found.old found.new }
+{
+    if let Some(image) = images.get(page) {
+        find_objects(image, found);
+    }
+}
