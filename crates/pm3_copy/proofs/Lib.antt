@@ -7,3 +7,8 @@ pub mod Collecting
 pub mod References
 pub mod WorkLists
 pub mod Turning
+pub mod Stayers
+pub mod Picking
+pub mod Settling
+pub mod Freeing
+pub mod PlanParts

@@ -1,5 +1,5 @@
 -- What a search by halves tells of numbers that rise.
-use Rattle.std.proofs.Common.{◌≡◌, ◌<◌, ◌≤◌, ◌∙◌, inl, inr, ℕ, List, length, get_or, Result, Ok, Err, refl, sym, ap, subst, arith}
+use Rattle.std.proofs.Common.{◌≡◌, ◌<◌, ◌≤◌, ◌∙◌, inl, inr, ℕ, Bool, IsTrue, ◌↔◌, is_ok, List, length, get_or, Result, Ok, Err, refl, sym, ap, subst, arith, rules}
 use Rattle.std.specs.List.{Contains}
 use Rattle.std.specs.List.Sorted.{IsBinarySearchResult}
 use Rattle.std.specs.Ordering.{nat_cmp}
@@ -34,3 +34,11 @@ module _ (xs : List ℕ) (word : ℕ) (r : Result ℕ ℕ) (is : IsBinarySearchR
 
   pub miss : (i : ℕ) → r ≡ Err i → Contains xs word → ⊥
   miss i e (k , low , there) = miss_by r i e (searched xs word r is not_falling) k low (get_or_default xs k 0 word low ∙ there)
+
+  among_by : (o : Result ℕ ℕ) → r ≡ o → IsTrue (is_ok o) ↔ Contains xs word
+  among_by (Ok i) e = (λ _. (let at = hit i e in (i, at.0, get_or_default xs i word 0 at.0 ∙ at.1)), λ _. search rules)
+  among_by (Err i) e = (λ never. absurd (search rules), λ there. absurd (miss i e there))
+
+  -- it tells whether a number is there
+  pub among : (b : Bool) → b ≡ is_ok r → IsTrue b ↔ Contains xs word
+  among b e = (let P : Bool → Type 0 = λ c. IsTrue c ↔ Contains xs word in subst P (sym e) (among_by r refl))

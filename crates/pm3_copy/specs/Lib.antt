@@ -2,3 +2,4 @@ pub mod Finds
 pub mod Whole
 pub mod References
 pub mod Spreading
+pub mod Planning

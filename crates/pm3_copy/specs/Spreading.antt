@@ -1,11 +1,11 @@
 -- What a pass knows of its sets while it goes from one object to the next.
-use Rattle.std.specs.Prelude.{ℕ, ◌≡◌, ◌⊎◌, ◌↔◌, ◌<◌, ◌≤◌, true, false, List, length, slice_index}
+use Rattle.std.specs.Prelude.{ℕ, ◌≡◌, ◌⊎◌, ◌↔◌, ◌<◌, ◌≤◌, ◌++◌, true, false, List, [], ◌∷◌, length, slice_index}
 use Rattle.std.specs.List.{Contains}
 use Rattle.std.specs.FinSet as set
 use Rattle.std.specs.FinMap as map
 use Rattle.std.specs.Ordering.{nat_cmp}
 use Rattle.pm3_types.specs.Fields.{Fields}
-use Rattle.pm3_types.specs.Layout.{page_in}
+use Rattle.pm3_types.specs.Layout.{is_address, page_in}
 use Rattle.pm3_types.specs.Objects.{RefersTo}
 use Rattle.pm3_types.specs.PassSets.{Before, Turns}
 use Rattle.pm3_page.specs.PageMap.{Images}
@@ -48,3 +48,16 @@ Picks base pinned but found a = Contains found.list a × (set.contains pinned (p
 -- an object of the images refers to it
 abbrev pub RefersFor : List Fields → ℕ → Images → ℕ → ℕ → Type 0
 RefersFor catalog base images a b = RefersTo catalog base (sheets_of images) a b
+
+-- these are addresses on pages that a store can have
+abbrev pub AreOnPages : ℕ → List ℕ → Type 0
+AreOnPages base list = (i : ℕ) → i < length list → (is_address base (slice_index list i) ≡ true) × (page_in base (slice_index list i) < 16384)
+
+-- an object is added to a list exactly where it is picked
+abbrev pub TakesUp : ℕ → set.FinSet nat_cmp → List ℕ → Finds → ℕ → List ℕ → List ℕ → Type 0
+TakesUp base pinned but found a old new = (Picks base pinned but found a × (new ≡ old ++ a ∷ [])) ⊎ ((Picks base pinned but found a → ⊥) × (new ≡ old))
+
+-- the pages that were given up, and this one unless it is pinned
+abbrev pub Frees : set.FinSet nat_cmp → ℕ → set.FinSet nat_cmp → set.FinSet nat_cmp → Type 0
+Frees pinned page old new =
+    (p : ℕ) → (set.contains new p ≡ true) ↔ ((set.contains old p ≡ true) ⊎ ((p ≡ page) × (set.contains pinned page ≡ false)))

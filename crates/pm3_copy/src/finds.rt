@@ -1,5 +1,5 @@
 //! The objects of a space, with a mark for those that have been found.
-ghost use Rattle.std.specs.Prelude.{◌≡◌, ◌↔◌, ◌<◌, ◌≤◌, [], length, slice_index, IfOk, IsTrue};
+ghost use Rattle.std.specs.Prelude.{ℕ, ◌≡◌, ◌↔◌, ◌<◌, ◌≤◌, [], length, slice_index, IfOk, IsTrue};
 ghost use Rattle.std.specs.List.{Contains};
 ghost use Rattle.pm3_types.specs.PassMoves.{IsRising};
 ghost use Rattle.pm3_copy.specs.Finds.{Adds};
@@ -53,6 +53,7 @@ impl Found {
     pub(crate) fn count(&self) -> usize
         ensures count { result ≡ length self.now.objects }
         ensures rising { IsRising self.now.objects }
+        ensures whole { (a : ℕ) → Contains self.now.list a → Contains self.now.objects a }
     {
         self.objects.len()
     }
@@ -77,6 +78,7 @@ impl Found {
     pub(crate) fn len(&self) -> usize
         ensures count { result ≡ length self.now.list }
         ensures few { length self.now.list ≤ length self.now.objects }
+        ensures whole { (a : ℕ) → Contains self.now.list a → Contains self.now.objects a }
     {
         self.list.len()
     }

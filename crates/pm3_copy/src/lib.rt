@@ -4,5 +4,12 @@
 mod finding;
 mod finds;
 mod keeping;
+mod movers;
 mod objects;
+mod planning;
+mod plans;
 mod spreading;
+mod wanted;
+
+pub use planning::plan;
+pub use plans::Plan;

@@ -1,0 +1,39 @@
+//! The plan of a pass.
+use pm3_page::{Addr, PageSet};
+use std::marker::Model;
+
+/// The plan of a pass, as `plan` makes it: how many pages it wants, and how many objects move.
+#[derive(Debug, Drop)]
+pub struct Plan {
+    /// The number of fresh pages that the objects that turn persistent want.
+    pub persistent: u32,
+    /// The number of fresh pages that the objects that stay in the space want.
+    pub volatile: u32,
+    /// The number of pinned pages.
+    pub pins: u32,
+    /// The number of objects that move.
+    pub moved: u32,
+    pub(crate) promoted: Vec<Addr>,
+    pub(crate) kept: Vec<Addr>,
+    pub(crate) turned: PageSet,
+    pub(crate) freed: PageSet,
+}
+
+impl Model for Plan {
+    ghost use Rattle.pm3_copy.specs.Planning.{PlanState, plan_code};
+
+    ghost Value = { PlanState };
+
+    ghost coded = { plan_code };
+
+    ghost view = { λ p. record {
+        persistent = p.persistent;
+        volatile = p.volatile;
+        pins = p.pins;
+        moved = p.moved;
+        promoted = p.promoted.items;
+        kept = p.kept.items;
+        turned = p.turned;
+        freed = p.freed;
+    } };
+}
