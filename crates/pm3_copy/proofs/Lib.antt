@@ -12,3 +12,4 @@ pub mod Picking
 pub mod Settling
 pub mod Freeing
 pub mod PlanParts
+pub mod SoundPages
