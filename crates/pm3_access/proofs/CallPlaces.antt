@@ -8,7 +8,8 @@ use Rattle.pm3_access.specs.declared.places.Place.{Place}
 use Rattle.pm3_access.specs.declared.places.NoPlace.{NoPlace}
 use Rattle.pm3_access.specs.Access.{value_written}
 use Rattle.pm3_access.specs.Acts.{AreInPlace}
-use Rattle.pm3_access.specs.Holding.{Holding, HeldImages, HeldSpaceState, SpaceState, IsAtHome, image_in, with_admitted, held_space, grown}
+use Rattle.pm3_access.specs.Holding.{Holding, HeldImages, HeldSpaceState, SpaceState, image_in, with_admitted, held_space, grown}
+use Rattle.pm3_page.specs.PageMap.{IsAtHome}
 use Rattle.pm3_access.proofs.InPlace.{admitted_in_place, space_in_place, grown_in_place, written_in_place}
 
 -- these pages and this space

@@ -6,10 +6,10 @@ use Rattle.std.specs.FinMap.{get}
 use mathlib.Core.Bool.{true≢false}
 use Rattle.pm3_types.specs.Fields.{Fields}
 use Rattle.pm3_types.specs.Layout.{Sheet, PageImage, IsLaid, is_start, is_forwarded, is_address, page_in, word_in, begins_at}
-use Rattle.pm3_types.specs.PageForm.{IsSound, map_at, tail_at}
+use Rattle.pm3_types.specs.PageForm.{map_at, tail_at}
 use Rattle.pm3_types.specs.Shown.{Book, Images, FitsImages, record_by, record_at, object_in, shown_records}
 use Rattle.pm3_types.proofs.Books.{shown_at}
-use Rattle.pm3_access.specs.Access.{begins_in, is_object_held, AreSound}
+use Rattle.pm3_access.specs.Access.{begins_in, is_object_held, HaveForm, ImageHasForm}
 use Rattle.pm3_access.specs.Acts.{sheet_in, left_images, map_by, map_held, IsHeldAs}
 use Rattle.pm3_access.specs.Holding.{Holding, image_in}
 use Rattle.pm3_access.proofs.HeldSheets.{get-left_images}
@@ -42,8 +42,8 @@ there_of catalog base book h a n map held = of (image_in h (page_in base a)) ref
     of None none = absurd (true≢false (sym held.object ∙ ap (λ (o : Option PageImage). begins_in base o a) none))
     of (Some image) is =
         let begins : begins_at base image a ≡ true = sym (ap (λ (o : Option PageImage). begins_in base o a) is) ∙ held.object in
-        let sound : IsSound catalog base held.pages image = held.sound (page_in base a) image is in
-        let objects = objects_of catalog base held.pages image (word_in base a) sound (start_of base image a begins) in (
+        let sound : ImageHasForm catalog held.refers image = held.form (page_in base a) image is in
+        let objects = objects_of catalog base held.refers image (word_in base a) sound (start_of base image a begins) in (
           image,
           is,
           record {
@@ -52,7 +52,7 @@ there_of catalog base book h a n map held = of (image_in h (page_in base a)) ref
             apart = λ e. objects.0 (sym (page_is base image a begins) ∙ e);
             laid = objects.1.laid;
             starts = start_of base image a begins;
-            unmoved = is_unmoved catalog base held.pages image a sound begins;
+            unmoved = is_unmoved catalog base held.refers image a sound begins;
             map_is = sym (ap (λ (o : Option PageImage). map_by catalog o (word_in base a)) is) ∙ held.map_is;
             fits = held.fits;
             named = held.named;
@@ -60,14 +60,14 @@ there_of catalog base book h a n map held = of (image_in h (page_in base a)) ref
         )
 
 -- an object of sound images has a type map
-pub map_of : (catalog : List Fields) (base pages : ℕ) (h : Holding) (a : ℕ) → AreSound catalog base pages h → is_object_held base h a ≡ true → (map : Fields) × (map_held catalog base h a ≡ Some map)
-map_of catalog base pages h a sound object = of (image_in h (page_in base a)) refl
+pub map_of : (catalog : List Fields) (base : ℕ) (refers : ℕ → Bool) (h : Holding) (a : ℕ) → HaveForm catalog refers h → is_object_held base h a ≡ true → (map : Fields) × (map_held catalog base h a ≡ Some map)
+map_of catalog base refers h a sound object = of (image_in h (page_in base a)) refl
   where
     of : (o : Option PageImage) → image_in h (page_in base a) ≡ o → (map : Fields) × (map_held catalog base h a ≡ Some map)
     of None none = absurd (true≢false (sym object ∙ ap (λ (o : Option PageImage). begins_in base o a) none))
     of (Some image) is =
         let begins : begins_at base image a ≡ true = sym (ap (λ (o : Option PageImage). begins_in base o a) is) ∙ object in
-        let objects = objects_of catalog base pages image (word_in base a) (sound (page_in base a) image is) (start_of base image a begins) in
+        let objects = objects_of catalog base refers image (word_in base a) (sound (page_in base a) image is) (start_of base image a begins) in
         let whole = objects.1.laid.whole (word_in base a) (start_of base image a begins) in
         let found = some_map (map_at catalog image.sheet (word_in base a)) (tail_at image.sheet (word_in base a)) whole.1 in
         (found.0, ap (λ (o : Option PageImage). map_by catalog o (word_in base a)) is ∙ found.1)

@@ -7,8 +7,8 @@ use Rattle.std.specs.Option.{option_or}
 use Rattle.std.specs.FinMap as map
 use Rattle.std.specs.FinMap.{nat_cmp-IsAntisymmetric, same_map, get-empty, get-insert}
 use Rattle.pm3_types.specs.Layout.{PageImage}
-use Rattle.pm3_page.specs.PageMap.{Images}
-use Rattle.pm3_access.specs.Holding.{IsAtHome, AreHeld, nothing_held, image_in}
+use Rattle.pm3_page.specs.PageMap.{Images, IsAtHome}
+use Rattle.pm3_access.specs.Holding.{AreHeld, nothing_held, image_in}
 use mathlib.Core.Bool.{true≢false}
 
 pub some_of : {T : Type 0} (x y : T) → Some x ≡ Some y → x ≡ y

@@ -3,8 +3,8 @@ use Rattle.std.proofs.Common.{◌≡◌, ◌≢◌, ℕ, ◌⊎◌, Option, None
 use Rattle.std.specs.Option.{option_or}
 use Rattle.std.specs.FinMap as map
 use Rattle.pm3_types.specs.Layout.{PageImage}
-use Rattle.pm3_page.specs.PageMap.{Images}
-use Rattle.pm3_access.specs.Holding.{HeldImages, IsAtHome, AreHeld}
+use Rattle.pm3_page.specs.PageMap.{Images, IsAtHome}
+use Rattle.pm3_access.specs.Holding.{HeldImages, AreHeld}
 use Rattle.pm3_access.specs.Parts.{both, AreWritten, AreUnwritten}
 use Rattle.pm3_access.proofs.Homes.{is_some_none}
 use Rattle.pm3_access.proofs.Moved.{get_both}

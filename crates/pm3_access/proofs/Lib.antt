@@ -31,3 +31,4 @@ pub mod SoundingPlacings
 pub mod Within
 pub mod WriteSteps
 pub mod Writing
+pub mod BodyWriting

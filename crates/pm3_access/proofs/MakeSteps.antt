@@ -8,7 +8,8 @@ use Rattle.std.specs.FinMap.{get, insert}
 use mathlib.Core.Bool.{true≢false}
 use Rattle.pm3_types.specs.Fields.{Fields}
 use Rattle.pm3_types.specs.Layout.{Sheet, PageImage, IsLaid, blank_sheet, address, end_of, size_by, head_of, has_tail, placed, placed_on}
-use Rattle.pm3_types.specs.PageForm.{IsSound, HasObjects, is_memory_reference}
+use Rattle.pm3_types.specs.PageForm.{HasObjects}
+use Rattle.pm3_access.specs.Access.{ImageHasForm}
 use Rattle.pm3_types.specs.Shown.{Book, Images, FitsImages, shown}
 use Rattle.pm3_graph.specs.declared.operations.Op.TheVariants as ops
 use Rattle.pm3_graph.specs.Operation.{new_of, unless_taken, IsStep}
@@ -56,10 +57,10 @@ type_map [] ty low = absurd (omega arith)
 type_map (map ∷ rest) zero low = (map, refl)
 type_map (map ∷ rest) (suc ty) low = type_map rest ty (omega arith)
 
-laid_of : (catalog : List Fields) (base pages : ℕ) (image : PageImage) → IsSound catalog base pages image → image.page ≢ 2 → IsLaid catalog image.sheet
-laid_of catalog base pages image sound apart = of (sound.objects apart)
+laid_of : (catalog : List Fields) (base : ℕ) (refers : ℕ → Bool) (image : PageImage) → ImageHasForm catalog refers image → image.page ≢ 2 → IsLaid catalog image.sheet
+laid_of catalog base refers image sound apart = of (sound.objects apart)
   where
-    of : (image.sheet ≡ blank_sheet) ⊎ HasObjects catalog (is_memory_reference base pages) image.page image.sheet → IsLaid catalog image.sheet
+    of : (image.sheet ≡ blank_sheet) ⊎ HasObjects catalog refers image.page image.sheet → IsLaid catalog image.sheet
     of (inl is) = subst (IsLaid catalog) (sym is) (blank_laid catalog)
     of (inr objects) = objects.laid
 
@@ -140,7 +141,7 @@ module _ (catalog : List Fields) (base : ℕ) (h new : Holding) (ty tail n at : 
     is_new = record {
       fits = new_name.fits;
       on = get-left_images h image.page ∙ ap sheet_in (ap (image_in h) home ∙ held_is);
-      laid = laid_of catalog base new_name.pages image (new_name.sound page image held_is) apart;
+      laid = laid_of catalog base new_name.refers image (new_name.form page image held_is) apart;
       page = low image current_image_is;
       apart = apart;
       map_is = map.1;

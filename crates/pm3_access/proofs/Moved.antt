@@ -9,7 +9,7 @@ use Rattle.std.specs.FinMap.{nat_cmp-IsAntisymmetric, same_map, get-empty, get-i
 use mathlib.Core.Bool.{true≢false}
 use Rattle.pm3_types.specs.Layout.{PageImage}
 use Rattle.pm3_page.specs.PageMap.{Images, PageMap}
-use Rattle.pm3_access.specs.Parts.{added, both, AreWritten, AreUnwritten, Stays, Moves, IsSettled}
+use Rattle.pm3_access.specs.Parts.{added, both, AreWritten, AreUnwritten, Stays, Moves, StaysOrMoves}
 use Rattle.pm3_access.proofs.Homes.{is_some_none, get_same, get_other}
 
 abbrev Image : Type 0
@@ -161,7 +161,7 @@ sorted_moves left found others written n page others' written' image le none mov
     }
 
 pub sorted_more : (left : PageMap) (found : Images) (others written : PageMap) (n page : ℕ) (others' written' : PageMap) → n ≤ page
-    → ((q : ℕ) → n ≤ q → q < page → map.contains_key others.images q ≡ false) → IsSettled page found others written others' written'
+    → ((q : ℕ) → n ≤ q → q < page → map.contains_key others.images q ≡ false) → StaysOrMoves page found others written others' written'
     → IsSortedTo left found others written n → IsSortedTo left found others' written' (page + 1)
 sorted_more left found others written n page others' written' le none (inl stays) sorted = sorted_stays left found others written n page others' written' le none stays sorted
 sorted_more left found others written n page others' written' le none (inr moves) sorted = sorted_moves left found others written n page others' written' moves.0 le none moves.1 sorted

@@ -20,7 +20,8 @@ use Rattle.pm3_access.specs.declared.places.Place.TheVariants.{Field, Tail, Byte
 use Rattle.pm3_access.specs.declared.spots.Spot.{Spot}
 use Rattle.pm3_access.specs.Spots.{spot_by, spot_in, spot_at, value_in}
 use Rattle.pm3_access.specs.Access.{value_by, value_held}
-use Rattle.pm3_access.specs.Acts.{left_images, left_part, has_names, read_op, answer_of, IsHeldAs}
+use Rattle.pm3_access.specs.Spots.{has_names}
+use Rattle.pm3_access.specs.Acts.{left_images, left_part, read_op, answer_of, IsHeldAs}
 use Rattle.pm3_access.specs.Holding.{Holding, image_in}
 use Rattle.pm3_access.proofs.Homes.{is_some_none}
 use Rattle.pm3_access.proofs.RecordPlaces.{place_of, place_is, value_is, reference_at}

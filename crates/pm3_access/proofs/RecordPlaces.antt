@@ -22,7 +22,8 @@ use Rattle.pm3_access.specs.declared.places.Place.TheVariants.{Field, Tail, Byte
 use Rattle.pm3_access.specs.declared.spots.Spot.{Spot}
 use Rattle.pm3_access.specs.declared.spots.Spot.TheVariants.{Word, ByteOf}
 use Rattle.pm3_access.specs.Spots.{spot_if, spot_by, value_in, byte_of}
-use Rattle.pm3_access.specs.Acts.{has_names, answer_of}
+use Rattle.pm3_access.specs.Acts.{answer_of}
+use Rattle.pm3_access.specs.Spots.{has_names}
 use Rattle.pm3_access.proofs.Homes.{is_some_none, some_of}
 
 -- the place of a record in which the value of an object's place is shown
@@ -120,6 +121,7 @@ module _ (book : Book) (map : Fields) (words : List ℕ) (w head : ℕ) where
       ref_value book words (w + 2 + map.count) (tail_in head) map.tail k tests.0 (ltb-true k (tail_in head) tests.1)
       ∙ ap (λ (i : ℕ). name_by book (get_or words i 0)) same
       ∙ ap (name_by book) parts.1
+      ∙ sym (ap (λ (b : Bool). cond b (name_by book v) v) tests.0)
   value_is (Byte k) v is =
       let parts = if_spot (value_in words w) (has_bytes map.tail && nat_lt k (tail_in head)) (ByteOf (map.count + k / 8) (k % 8)) v is in
       let tests = and_parts (has_bytes map.tail) (nat_lt k (tail_in head)) parts.0 in

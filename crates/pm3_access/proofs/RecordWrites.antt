@@ -159,7 +159,9 @@ module _ (book : Book) (map : Fields) (words : List ℕ) (at head : ℕ) where
       let fields = fields_kept book map words at (at + 2 + (map.count + k)) v (omega arith) in
       let items = ap (λ (i : ℕ). tail_of book map.tail (set words i v) (at + 2 + map.count) (tail_in head)) (sym place)
       ∙ refs_written book words (at + 2 + map.count) (tail_in head) k v low map.tail is (omega arith) in
-      λ i. record { ty = (record_by book (Some map) words at head).ty; fields = fields i; tail = items i }
+      let after : record_after (Word (map.count + k)) v ≡ with_value (record_by book (Some map) words at head) (place_of map (Tail k)) (name_by book v) =
+      λ i. record { ty = (record_by book (Some map) words at head).ty; fields = fields i; tail = items i } in
+      after ∙ ap (λ (b : Bool). with_value (record_by book (Some map) words at head) (place_of map (Tail k)) (cond b (name_by book v) v)) (sym is)
 
   byte_after : (k v : ℕ) → has_bytes map.tail ≡ true → k < tail_in head → v < 256 → IsAfter (Byte k) v (ByteOf (map.count + k / 8) (k % 8))
   byte_after k v is low small within =

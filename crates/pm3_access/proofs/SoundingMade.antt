@@ -7,8 +7,8 @@ use Rattle.std.proofs.lemmas.Option.{slice_get_cases}
 use Rattle.std.proofs.Math.Bool.{or-true}
 use Rattle.pm3_types.specs.Fields.{Fields}
 use Rattle.pm3_types.specs.Layout.{PageImage, end_of, has_tail, has_tail_by, size_by, size_of, head_of, type_in, tail_in, placed_on}
-use Rattle.pm3_types.specs.PageForm.{IsSound, is_head_of, is_name}
-use Rattle.pm3_access.specs.Access.{AreSound}
+use Rattle.pm3_types.specs.PageForm.{is_head_of, is_name}
+use Rattle.pm3_access.specs.Access.{HaveForm, ImageHasForm}
 use Rattle.pm3_access.specs.Holding.{Holding, HeldImages, HeldSpaceState}
 use Rattle.pm3_access.specs.Making.{has_space_for, has_room_for, current_in, current_image, space_made, IsMade}
 use Rattle.pm3_access.specs.Sound.{HasLowPage}
@@ -44,7 +44,7 @@ head_form map head low empty = both (ltb head (2 ^ 48)) (has_tail_by map.tail ||
 apart_by : (page : ℕ) → not (eqb page 2) ≡ true → page ≢ 2
 apart_by page e same = false≢true (sym (ap not (eq-eqb page 2 same)) ∙ e)
 
-module _ (catalog : List Fields) (base pages ty tail name : ℕ) (there : ty < length catalog) (low : ty < 2 ^ 16) (few : tail < 2 ^ 32)
+module _ (catalog : List Fields) (base : ℕ) (refers : ℕ → Bool) (nil : refers 0 ≡ true) (ty tail name : ℕ) (there : ty < length catalog) (low : ty < 2 ^ 16) (few : tail < 2 ^ 32)
     (named : (0 < name) × (name < 2 ^ 62)) (empty : has_tail (slice_get catalog ty) ≡ false → tail ≡ 0) where
   abbrev size : ℕ
   size = size_by (slice_get catalog ty) tail
@@ -65,30 +65,30 @@ module _ (catalog : List Fields) (base pages ty tail name : ℕ) (there : ty < l
   headed map is = head_form map (head_of ty tail) (head_low ty tail low few)
       (λ none. tail_back ty tail low few ∙ empty (ap has_tail (sym (ap (slice_get catalog) (type_back ty tail low)) ∙ is) ∙ none))
 
-  image_made : (image : PageImage) → has_space_for image size ≡ true → image.page < 2 ^ 32 → IsSound catalog base pages image
-      → IsSound catalog base pages (placed_on image size (head_of ty tail) name)
+  image_made : (image : PageImage) → has_space_for image size ≡ true → image.page < 2 ^ 32 → ImageHasForm catalog refers image
+      → ImageHasForm catalog refers (placed_on image size (head_of ty tail) name)
   image_made image room small form =
       let tests = and_parts (not (eqb image.page 2)) (leb (end_of image.sheet + size) 512) room in
-      sound_placed catalog base pages image size (head_of ty tail) name form (apart_by image.page tests.0) small two (leb-true (end_of image.sheet + size) 512 tests.1) sized headed
+      sound_placed catalog refers image size (head_of ty tail) name nil form (apart_by image.page tests.0) small two (leb-true (end_of image.sheet + size) 512 tests.1) sized headed
       (name_form name named.0 named.1)
 
   in_space : (p : HeldImages) (s : HeldSpaceState) (current : Option ℕ) (found : Option PageImage) → option_and_then (map.get s.images.left) current ≡ found → has_room_for found size ≡ true
-      → HasLowPage found → AreSound catalog base pages (record { pages = p; space = Some s })
-      → AreSound catalog base pages (record { pages = p; space = Some (space_made s current found size (head_of ty tail) name) })
+      → HasLowPage found → HaveForm catalog refers (record { pages = p; space = Some s })
+      → HaveForm catalog refers (record { pages = p; space = Some (space_made s current found size (head_of ty tail) name) })
   in_space p s None found is room small sound = absurd (false≢true (ap (λ (o : Option PageImage). has_room_for o size) is ∙ room))
   in_space p s (Some page) None is room small sound = absurd (false≢true room)
   in_space p s (Some page) (Some image) is room small sound =
-      sound_in_space catalog base pages p s (space_made s (Some page) (Some image) size (head_of ty tail) name) page (placed_on image size (head_of ty tail) name) refl
+      sound_in_space catalog base refers p s (space_made s (Some page) (Some image) size (head_of ty tail) name) page (placed_on image size (head_of ty tail) name) refl
       (λ none. image_made image room (small image refl) (sound page image (ap (λ (o : Option PageImage). option_or o (map.get s.images.left page)) none ∙ is))) sound
 
   held : (p : HeldImages) (space : Option HeldSpaceState) → has_room_for (current_image space) size ≡ true → HasLowPage (current_image space)
-      → AreSound catalog base pages (record { pages = p; space = space })
-      → AreSound catalog base pages (record { pages = p; space = option_map (λ s. space_made s s.current (current_in s) size (head_of ty tail) name) space })
+      → HaveForm catalog refers (record { pages = p; space = space })
+      → HaveForm catalog refers (record { pages = p; space = option_map (λ s. space_made s s.current (current_in s) size (head_of ty tail) name) space })
   held p None room small sound = absurd (false≢true room)
   held p (Some s) room small sound = in_space p s s.current (current_in s) refl room small sound
 
   -- a new object keeps the form of what is held
   pub sound_made : (old : Holding) (result : Option ℕ) (new : Holding) → IsMade base catalog old ty tail name result new
-      → HasLowPage (current_image old.space) → AreSound catalog base pages old → AreSound catalog base pages new
-  sound_made old None new is small sound = subst (AreSound catalog base pages) (sym is.1) sound
-  sound_made old (Some at) new is small sound = subst (AreSound catalog base pages) (sym is.2) (held old.pages old.space is.0 small sound)
+      → HasLowPage (current_image old.space) → HaveForm catalog refers old → HaveForm catalog refers new
+  sound_made old None new is small sound = subst (HaveForm catalog refers) (sym is.1) sound
+  sound_made old (Some at) new is small sound = subst (HaveForm catalog refers) (sym is.2) (held old.pages old.space is.0 small sound)

@@ -7,8 +7,9 @@ use Rattle.std.proofs.Math.Bool.{or-true}
 use Rattle.pm3_core.proofs.Functions.{get_or-replicate_default}
 use Rattle.pm3_types.specs.Fields.{Fields}
 use Rattle.pm3_types.specs.Layout.{Sheet, PageImage, IsLaid, blank_sheet, is_start, type_in, tail_in, size_of, size_at, end_of, used_in, page_head, zeroed, placed, placed_on}
-use Rattle.pm3_types.specs.PageForm.{HasObjects, IsSound, IsReferenceIn, IsTailBytes, is_head_of, is_name, is_padded, is_page_head, is_memory_reference, map_at, tail_at}
+use Rattle.pm3_types.specs.PageForm.{HasObjects, IsReferenceIn, IsTailBytes, is_head_of, is_name, is_padded, is_page_head, is_memory_reference, map_at, tail_at}
 use Rattle.pm3_types.proofs.Placings.{placed_laid}
+use Rattle.pm3_access.specs.Access.{ImageHasForm}
 use Rattle.pm3_access.proofs.Sounding.{reference_within, bytes_within}
 use Rattle.pm3_access.proofs.Within.{blank_starts}
 
@@ -207,16 +208,17 @@ module _ (catalog : List Fields) (refers : ℕ → Bool) (page : ℕ) (sheet : S
     padding = padding;
   }
 
-nil_refers : (base pages : ℕ) → is_memory_reference base pages 0 ≡ true
+-- nil is a reference
+pub nil_refers : (base pages : ℕ) → is_memory_reference base pages 0 ≡ true
 unfolding is_memory_reference
 nil_refers base pages = refl
 
 -- the image of a page that isn't that of roots is sound with one more object
-pub sound_placed : (catalog : List Fields) (base pages : ℕ) (image : PageImage) (size head name : ℕ) → IsSound catalog base pages image → image.page ≢ 2 → image.page < 2 ^ 32 → 2 ≤ size
+pub sound_placed : (catalog : List Fields) (refers : ℕ → Bool) (image : PageImage) (size head name : ℕ) → refers 0 ≡ true → ImageHasForm catalog refers image → image.page ≢ 2 → image.page < 2 ^ 32 → 2 ≤ size
     → end_of image.sheet + size ≤ 512 → size_of catalog head ≡ size → ((map : Fields) → slice_get catalog (type_in head) ≡ Some map → is_head_of map head ≡ true) → is_name name ≡ true
-    → IsSound catalog base pages (placed_on image size head name)
-sound_placed catalog base pages image size head name form apart low two fits sized headed named = record {
+    → ImageHasForm catalog refers (placed_on image size head name)
+sound_placed catalog refers image size head name nil form apart low two fits sized headed named = record {
   roots = λ e. absurd (apart e);
-  objects = λ away. inr (objects_placed catalog (is_memory_reference base pages) image.page image.sheet size head name
-      (filled catalog (is_memory_reference base pages) image.page image.sheet (form.objects apart)) apart low two fits sized headed named (nil_refers base pages));
+  objects = λ away. inr (objects_placed catalog refers image.page image.sheet size head name
+      (filled catalog refers image.page image.sheet (form.objects apart)) apart low two fits sized headed named nil);
 }

@@ -5,7 +5,8 @@ use Rattle.std.specs.Prelude.{slice_get, slice_index, slice_index_or}
 use mathlib.Core.Bool.{true≢false}
 use Rattle.pm3_types.specs.Fields.{Fields}
 use Rattle.pm3_types.specs.Layout.{PageImage, is_start, type_in, tail_in, tail_words, size_by, is_forwarded, page_head, used_in, is_address, page_in, word_in, begins_at, head_at}
-use Rattle.pm3_types.specs.PageForm.{IsSound, HasObjects, map_at, tail_at, is_head_of, is_page_head, is_memory_reference}
+use Rattle.pm3_types.specs.PageForm.{HasObjects, map_at, tail_at, is_head_of, is_page_head}
+use Rattle.pm3_access.specs.Access.{ImageHasForm}
 
 pub blank_starts : (n s : ℕ) → slice_index_or (replicate n false) s false ≡ false
 blank_starts zero s = refl
@@ -13,9 +14,9 @@ blank_starts (suc n) zero = refl
 blank_starts (suc n) (suc s) = blank_starts n s
 
 -- an object begins on a page of objects
-pub objects_of : (catalog : List Fields) (base pages : ℕ) (image : PageImage) (s : ℕ) → IsSound catalog base pages image → is_start image.sheet s ≡ true
-    → (image.page ≢ 2) × HasObjects catalog (is_memory_reference base pages) image.page image.sheet
-objects_of catalog base pages image s form starts = elim (cases_eq image.page 2) [
+pub objects_of : (catalog : List Fields) (base : ℕ) (refers : ℕ → Bool) (image : PageImage) (s : ℕ) → ImageHasForm catalog refers image → is_start image.sheet s ≡ true
+    → (image.page ≢ 2) × HasObjects catalog refers image.page image.sheet
+objects_of catalog base refers image s form starts = elim (cases_eq image.page 2) [
   | inl roots ↦ absurd (true≢false (sym starts ∙ (form.roots roots).empty s))
   | inr apart ↦ (
     apart,
@@ -30,10 +31,10 @@ pub start_of : (base : ℕ) (image : PageImage) (a : ℕ) → begins_at base ima
 start_of base image a begins = (and_parts (is_address base a && (page_in base a == image.page)) (is_start image.sheet (word_in base a)) begins).1
 
 -- its body ends on the page
-pub body_within : (catalog : List Fields) (base pages : ℕ) (image : PageImage) (a : ℕ) (map : Fields) → IsSound catalog base pages image → begins_at base image a ≡ true
+pub body_within : (catalog : List Fields) (base : ℕ) (refers : ℕ → Bool) (image : PageImage) (a : ℕ) (map : Fields) → ImageHasForm catalog refers image → begins_at base image a ≡ true
     → slice_get catalog (type_in (head_at base image a)) ≡ Some map → word_in base a + 2 + map.count + tail_words map.tail (tail_in (head_at base image a)) ≤ 512
-body_within catalog base pages image a map form begins is =
-    let objects = (objects_of catalog base pages image (word_in base a) form (start_of base image a begins)).1 in
+body_within catalog base refers image a map form begins is =
+    let objects = (objects_of catalog base refers image (word_in base a) form (start_of base image a begins)).1 in
     let whole = objects.laid.whole (word_in base a) (start_of base image a begins) in
     let size = ap (λ o. size_by o (tail_in (head_at base image a))) is in
     let end = objects.laid.end in
@@ -52,9 +53,9 @@ head_low : (map : Fields) (head : ℕ) → is_head_of map head ≡ true → head
 unfolding is_head_of
 head_low map head e = ltb-true head (2 ^ 48) (and_parts (ltb head (2 ^ 48)) _ e).0
 
-pub is_unmoved : (catalog : List Fields) (base pages : ℕ) (image : PageImage) (a : ℕ) → IsSound catalog base pages image → begins_at base image a ≡ true → is_forwarded (head_at base image a) ≡ false
-is_unmoved catalog base pages image a form begins =
-    let objects = (objects_of catalog base pages image (word_in base a) form (start_of base image a begins)).1 in
+pub is_unmoved : (catalog : List Fields) (base : ℕ) (refers : ℕ → Bool) (image : PageImage) (a : ℕ) → ImageHasForm catalog refers image → begins_at base image a ≡ true → is_forwarded (head_at base image a) ≡ false
+is_unmoved catalog base refers image a form begins =
+    let objects = (objects_of catalog base refers image (word_in base a) form (start_of base image a begins)).1 in
     let whole = objects.laid.whole (word_in base a) (start_of base image a begins) in
     let map = some_map (map_at catalog image.sheet (word_in base a)) (tail_at image.sheet (word_in base a)) whole.1 in
     low_head (head_at base image a) (head_low map.0 (head_at base image a) (objects.heads (word_in base a) map.0 (start_of base image a begins) map.1))
@@ -68,9 +69,9 @@ unfolding is_page_head page_head used_in
 low_page page word apart e = page_of_head page word (eqb page 2) e (ne_eqb page 2 apart)
 
 -- an object of a sound image lies on a page with a number of 32 bits
-pub page_low : (catalog : List Fields) (base pages : ℕ) (image : PageImage) (a : ℕ) → IsSound catalog base pages image → begins_at base image a ≡ true → page_in base a < 2 ^ 32
-page_low catalog base pages image a form begins =
-    let parts = objects_of catalog base pages image (word_in base a) form (start_of base image a begins) in
+pub page_low : (catalog : List Fields) (base : ℕ) (refers : ℕ → Bool) (image : PageImage) (a : ℕ) → ImageHasForm catalog refers image → begins_at base image a ≡ true → page_in base a < 2 ^ 32
+page_low catalog base refers image a form begins =
+    let parts = objects_of catalog base refers image (word_in base a) form (start_of base image a begins) in
     let low = low_page image.page (slice_index image.sheet.words 0) parts.0 parts.1.head in
     let on = eqb-true (page_in base a) image.page (and_parts (is_address base a) (page_in base a == image.page) (and_parts (is_address base a && (page_in base a == image.page)) (is_start image.sheet (word_in base a)) begins).0).1 in
     omega arith

@@ -27,7 +27,8 @@ use Rattle.pm3_access.specs.declared.spots.Spot.{Spot}
 use Rattle.pm3_access.specs.declared.spots.Spot.TheVariants.{Word, ByteOf}
 use Rattle.pm3_access.specs.Spots.{spot_by, word_of, with_value_in, IsValueFor}
 use Rattle.pm3_access.specs.Access.{written_by, value_written}
-use Rattle.pm3_access.specs.Acts.{left_images, left_part, has_names, write_with, write_op, answer_of, IsHeldAs}
+use Rattle.pm3_access.specs.Acts.{left_images, left_part, write_with, write_op, answer_of, IsHeldAs}
+use Rattle.pm3_access.specs.Spots.{has_names}
 use Rattle.pm3_access.specs.Holding.{Holding, image_in}
 use Rattle.pm3_access.proofs.Homes.{is_some_none, some_of}
 use Rattle.pm3_access.proofs.HeldSheets.{sheet_other, changed, written_is, left_changed}
@@ -135,7 +136,8 @@ known_word book map len (Field f) spot v words at k found known ref same =
     of e (inr is) = (let low = ltb-true f map.count (spot_found (nat_lt f map.count) (Word f) spot found).0 in let past = is.0 in absurd (omega arith))
 known_word book map len (Tail j) spot v words at k found known ref same =
     let parts = spot_found (has_refs map.tail && nat_lt j len) (Word (map.count + j)) spot found in
-    subst (λ (s : Spot). IsKnown book (word_written words at s v)) parts.1 (known refl)
+    let tests = and_parts (has_refs map.tail) (nat_lt j len) parts.0 in
+    subst (λ (s : Spot). IsKnown book (word_written words at s v)) parts.1 (known tests.0)
 known_word book map len (Byte j) spot v words at k found known ref same =
     let parts = spot_found (has_bytes map.tail && nat_lt j len) (ByteOf (map.count + j / 8) (j % 8)) spot found in
     let tests = and_parts (has_bytes map.tail) (nat_lt j len) parts.0 in

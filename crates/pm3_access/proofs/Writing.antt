@@ -9,7 +9,7 @@ use Rattle.std.specs.FinMap.{nat_cmp-IsAntisymmetric, same_map}
 use mathlib.Core.Bool.{true≢false}
 use Rattle.pm3_types.specs.Fields.{Fields}
 use Rattle.pm3_types.specs.Layout.{PageImage, is_address, page_in, word_in, size_by, head_of}
-use Rattle.pm3_types.specs.PageForm.{IsSound}
+use Rattle.pm3_types.specs.PageForm.{is_memory_reference, IsSound}
 use Rattle.pm3_page.specs.PageMap.{Images}
 use Rattle.pm3_access.specs.declared.places.Place.{Place}
 use Rattle.pm3_access.specs.declared.places.Place.TheVariants.{Field, Tail, Byte}
@@ -46,7 +46,7 @@ held_address base (Some image) a e = address_held base image a e
 
 pub held_low : (catalog : List Fields) (base : ℕ) (o : Option PageImage) (a : ℕ) → ((image : PageImage) → o ≡ Some image → IsSound catalog base 16384 image) → begins_in base o a ≡ true → page_in base a < 2 ^ 32
 held_low catalog base None a sound e = absurd (true≢false (sym e))
-held_low catalog base (Some image) a sound e = page_low catalog base 16384 image a (sound image refl) e
+held_low catalog base (Some image) a sound e = page_low catalog base (is_memory_reference base 16384) image a (sound image refl) e
 
 -- a new object leaves the number of the page
 pub placed_page : (base : ℕ) (catalog : List Fields) (old : PageImage) (ty tail name : ℕ) (result : Option ℕ) (new : PageImage) → IsPlacedOn base catalog old ty tail name result new → new.page ≡ old.page

@@ -4,7 +4,7 @@ use Rattle.std.specs.Option.{option_map}
 use Rattle.std.specs.FinMap as map
 use Rattle.pm3_types.specs.Fields.{Fields}
 use Rattle.pm3_types.specs.Layout.{PageImage, begins_at, page_in, word_in}
-use Rattle.pm3_types.specs.PageForm.{IsSound}
+use Rattle.pm3_types.specs.PageForm.{HasForm, is_memory_reference}
 use Rattle.pm3_access.specs.declared.places.Place.{Place}
 use Rattle.pm3_access.specs.Holding.{Holding, HeldImages, HeldSpaceState, image_in, with_image, space_with}
 use Rattle.pm3_access.specs.Spots.{value_at_place, with_value_at_place}
@@ -17,9 +17,17 @@ begins_in base (Some image) a = begins_at base image a
 abbrev pub is_object_held : ℕ → Holding → ℕ → Bool
 is_object_held base h a = begins_in base (image_in h (page_in base a)) a
 
--- each image that is held has the form under the catalog, in a store of so many pages
+-- an image has the form of pages under the catalog, with this test of references
+abbrev pub ImageHasForm : List Fields → (ℕ → Bool) → PageImage → Type 0
+ImageHasForm catalog refers image = HasForm catalog refers image.page image.sheet
+
+-- each image that is held has it
+abbrev pub HaveForm : List Fields → (ℕ → Bool) → Holding → Type 0
+HaveForm catalog refers h = (page : ℕ) (image : PageImage) → image_in h page ≡ Some image → ImageHasForm catalog refers image
+
+-- the same where the references are those of a store of so many pages
 abbrev pub AreSound : List Fields → ℕ → ℕ → Holding → Type 0
-AreSound catalog base pages h = (page : ℕ) (image : PageImage) → image_in h page ≡ Some image → IsSound catalog base pages image
+AreSound catalog base pages h = HaveForm catalog (is_memory_reference base pages) h
 
 -- the value at a place of the object at a word, or nothing where there is no such place
 abbrev pub value_by : List Fields → Option PageImage → ℕ → Place → Option ℕ

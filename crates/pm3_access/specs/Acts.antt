@@ -14,7 +14,8 @@ use Rattle.pm3_graph.specs.declared.operations.Op.TheVariants as ops
 use Rattle.pm3_page.specs.PageMap as page_map
 use Rattle.pm3_access.specs.declared.places.Place.{Place}
 use Rattle.pm3_access.specs.declared.places.Place.TheVariants.{Field, Tail, Byte}
-use Rattle.pm3_access.specs.Access.{is_object_held, AreSound}
+use Rattle.pm3_access.specs.Access.{is_object_held, HaveForm}
+use Rattle.pm3_access.specs.Spots.{has_names}
 use Rattle.pm3_access.specs.Holding.{Holding, HeldSpaceState, SpaceState, image_in, space_now}
 
 -- the sheet of an image, if there is one
@@ -61,12 +62,6 @@ map_by catalog (Some image) at = map_at catalog image.sheet at
 abbrev pub map_held : List Fields → ℕ → Holding → ℕ → Option Fields
 map_held catalog base h a = map_by catalog (image_in h (page_in base a)) (word_in base a)
 
--- addresses stand at this place of an object with this map, and names at that place of its record
-abbrev pub has_names : Fields → Place → Bool
-has_names map (Field f) = is_reference map f
-has_names map (Tail k) = true
-has_names map (Byte k) = false
-
 -- what a value at that place is in the record: the name of the object, where the value is an address
 abbrev pub answer_of : Book → Fields → Place → ℕ → ℕ
 answer_of book map place v = cond (has_names map place) (name_by book v) v
@@ -87,10 +82,10 @@ write_with map n (Byte k) x = ops.SetByte n k x
 abbrev pub write_op : Book → Fields → ℕ → Place → ℕ → Op
 write_op book map n place v = write_with map n place (answer_of book map place v)
 
--- an object with this map is held at a, and a book that fits all that is held has it under the name n
+-- an object with this map is held at a, where what is held has the form of pages, and a book that fits it has it under the name n
 pub record IsHeldAs (catalog : List Fields) (base : ℕ) (book : Book) (h : Holding) (a n : ℕ) (map : Fields) : Type 0 where
-  pub pages : ℕ
-  pub sound : AreSound catalog base pages h
+  pub refers : ℕ → Bool
+  pub form : HaveForm catalog refers h
   pub object : is_object_held base h a ≡ true
   pub map_is : map_held catalog base h a ≡ Some map
   pub fits : FitsImages catalog base book (left_images h)
@@ -102,10 +97,10 @@ pub record AreInPlace (h : Holding) : Type 0 where
   pub apart : (page : ℕ) → contains_key h.pages.left page ≡ true → space_now h.space page ≡ None
   pub found : (page : ℕ) → image_in h page ≡ None → get (found_images h) page ≡ None
 
--- a book fits all that is held, whose images are sound, and has the name nowhere
+-- a book fits all that is held, which has the form of pages, and has the name nowhere
 pub record IsNewName (catalog : List Fields) (base : ℕ) (book : Book) (h : Holding) (n : ℕ) : Type 0 where
-  pub pages : ℕ
-  pub sound : AreSound catalog base pages h
+  pub refers : ℕ → Bool
+  pub form : HaveForm catalog refers h
   pub fits : FitsImages catalog base book (left_images h)
   pub fresh : (a : ℕ) → get book a ≢ Some n
 

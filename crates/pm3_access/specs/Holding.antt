@@ -1,18 +1,10 @@
 -- What one transaction holds, and what it does to that.
-use Rattle.std.specs.Prelude.{ℕ, ◌≡◌, ◌<◌, ◌≤◌, List, [], ◌∷◌, ◌++◌, Option, None, Some, refl}
+use Rattle.std.specs.Prelude.{ℕ, ◌≡◌, ◌<◌, ◌≤◌, List, [], ◌∷◌, ◌++◌, Option, None, Some}
 use Rattle.std.specs.Option.{option_or, option_map}
 use Rattle.std.specs.FinMap as map
-use Rattle.std.specs.FinSet as set
-use Rattle.std.specs.Coded.{Coded, code_by, coded×, coded_ℕ, coded_list, coded_option}
 use Rattle.pm3_types.specs.Layout.{PageImage}
-use Rattle.pm3_page.specs.PageMap.{Images, page_image_code}
+use Rattle.pm3_page.specs.PageMap.{Images, IsAtHome}
 use Rattle.pm3_access.specs.FreeList.{Numbers, with_pages}
-
-abbrev pub images_code : Coded Images
-images_code = map.code coded_ℕ page_image_code
-
-abbrev pub numbers_code : Coded Numbers
-numbers_code = set.code coded_ℕ
 
 -- the volatile pages of a group: their images, the free pages and the room for more, and the page that objects are placed on
 pub record SpaceState : Type 0 where
@@ -22,19 +14,10 @@ pub record SpaceState : Type 0 where
   pub room : ℕ
   pub current : Option ℕ
 
-abbrev pub space_code : Coded SpaceState
-space_code =
-    code_by (ℕ × (Images × (Numbers × (ℕ × Option ℕ)))) (coded× coded_ℕ (coded× images_code (coded× numbers_code (coded× coded_ℕ (coded_option coded_ℕ)))))
-    (λ s. (s.number, (s.images, (s.free, (s.room, s.current)))))
-    (λ p. record { number = p.0; images = p.1.0; free = p.1.1.0; room = p.1.1.1.0; current = p.1.1.1.1 }) (λ _. refl)
-
 -- images as they are now, and as they were found
 pub record HeldImages : Type 0 where
   pub left : Images
   pub found : Images
-
-abbrev pub held_images_code : Coded HeldImages
-held_images_code = code_by (Images × Images) (coded× images_code images_code) (λ h. (h.left, h.found)) (λ p. record { left = p.0; found = p.1 }) (λ _. refl)
 
 -- a space that is held: its images, its free pages and the room for more, its current page as it was found and now, and the pages drawn since
 pub record HeldSpaceState : Type 0 where
@@ -46,32 +29,16 @@ pub record HeldSpaceState : Type 0 where
   pub current : Option ℕ
   pub drawn : List ℕ
 
-abbrev pub held_space_code : Coded HeldSpaceState
-held_space_code =
-    code_by (ℕ × (HeldImages × (Numbers × (ℕ × (Option ℕ × (Option ℕ × List ℕ))))))
-    (coded× coded_ℕ (coded× held_images_code (coded× numbers_code (coded× coded_ℕ (coded× (coded_option coded_ℕ) (coded× (coded_option coded_ℕ) (coded_list coded_ℕ)))))))
-    (λ s. (s.number, (s.images, (s.free, (s.room, (s.first, (s.current, s.drawn)))))))
-    (λ p. record { number = p.0; images = p.1.0; free = p.1.1.0; room = p.1.1.1.0; first = p.1.1.1.1.0; current = p.1.1.1.1.1.0; drawn = p.1.1.1.1.1.1 }) (λ _. refl)
-
 -- pages held alone, and a space or none
 pub record Holding : Type 0 where
   pub pages : HeldImages
   pub space : Option HeldSpaceState
-
-abbrev pub holding_code : Coded Holding
-holding_code =
-    code_by (HeldImages × Option HeldSpaceState) (coded× held_images_code (coded_option held_space_code))
-    (λ h. (h.pages, h.space)) (λ p. record { pages = p.0; space = p.1 }) (λ _. refl)
 
 abbrev pub no_images : HeldImages
 no_images = record { left = map.empty; found = map.empty }
 
 abbrev pub nothing_held : Holding
 nothing_held = record { pages = no_images; space = None }
-
--- each image stands under its own page
-abbrev pub IsAtHome : Images → Type 0
-IsAtHome images = (page : ℕ) (image : PageImage) → map.get images page ≡ Some image → image.page ≡ page
 
 -- what is found is held, and each image stands under its own page
 pub record AreHeld (left found : Images) : Type 0 where
@@ -97,11 +64,11 @@ with_admitted h image = record { left = map.insert h.left image.page image; foun
 
 -- a page that was not found
 abbrev pub with_grown : HeldImages → PageImage → HeldImages
-with_grown h image = record { left = map.insert h.left image.page image; found = h.found }
+with_grown h image = record h { left = map.insert h.left image.page image }
 
 -- another image now
 abbrev pub with_image : HeldImages → ℕ → PageImage → HeldImages
-with_image h page image = record { left = map.insert h.left page image; found = h.found }
+with_image h page image = record h { left = map.insert h.left page image }
 
 -- images that were found as they are
 abbrev pub as_found : Images → HeldImages
@@ -113,23 +80,15 @@ held_space s = record { number = s.number; images = as_found s.images; free = s.
 
 -- the space with another image now
 abbrev pub space_with : HeldSpaceState → ℕ → PageImage → HeldSpaceState
-space_with s page image = record { number = s.number; images = with_image s.images page image; free = s.free; room = s.room; first = s.first; current = s.current; drawn = s.drawn }
+space_with s page image = record s { images = with_image s.images page image }
 
 -- the space with a page drawn, which is its current one
 abbrev pub grown : HeldSpaceState → PageImage → HeldSpaceState
-grown s image = record {
-  number = s.number;
-  images = with_grown s.images image;
-  free = s.free;
-  room = s.room;
-  first = s.first;
-  current = Some image.page;
-  drawn = s.drawn ++ image.page ∷ [];
-}
+grown s image = record s { images = with_grown s.images image; current = Some image.page; drawn = s.drawn ++ image.page ∷ [] }
 
 -- the space with other free pages and other room
 abbrev pub with_free : HeldSpaceState → Numbers → ℕ → HeldSpaceState
-with_free s free room = record { number = s.number; images = s.images; free = free; room = room; first = s.first; current = s.current; drawn = s.drawn }
+with_free s free room = record s { free = free; room = room }
 
 -- the space as it was found, with the pages drawn since among the free ones
 abbrev pub undone_space : HeldSpaceState → ℕ → SpaceState
@@ -144,14 +103,14 @@ IsUndone (Some s) (Some t) = (t ≡ undone_space s t.room) × (s.room ≤ t.room
 
 -- a page held as it is, and a space held as it is
 abbrev pub admitted : Holding → PageImage → Holding
-admitted h image = record { pages = with_admitted h.pages image; space = h.space }
+admitted h image = record h { pages = with_admitted h.pages image }
 
 abbrev pub with_held_space : Holding → SpaceState → Holding
-with_held_space h space = record { pages = h.pages; space = Some (held_space space) }
+with_held_space h space = record h { space = Some (held_space space) }
 
 -- a change of the held space alone
 abbrev pub by_space : (HeldSpaceState → HeldSpaceState) → Holding → Holding
-by_space change h = record { pages = h.pages; space = option_map change h.space }
+by_space change h = record h { space = option_map change h.space }
 
 -- there is room for a free page
 abbrev pub HasRoom : Option HeldSpaceState → Type 0

@@ -7,3 +7,6 @@ pub mod Parting
 pub mod Parts
 pub mod Sound
 pub mod Spots
+pub mod Codes
+pub mod BodyWrites
+pub mod AccessLaws

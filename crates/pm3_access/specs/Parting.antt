@@ -3,8 +3,9 @@ use Rattle.std.specs.Prelude.{ℕ, ◌≡◌, ◌≢◌, ◌≤◌, None}
 use Rattle.std.specs.Option.{option_map}
 use Rattle.std.specs.FinMap as map
 use Rattle.pm3_access.specs.declared.parted.Parted.{Parted}
+use Rattle.pm3_page.specs.PageMap.{IsAtHome}
 use Rattle.pm3_access.specs.Acts.{AreInPlace}
-use Rattle.pm3_access.specs.Holding.{Holding, IsAtHome, AreFound}
+use Rattle.pm3_access.specs.Holding.{Holding, AreFound}
 use Rattle.pm3_access.specs.Parts.{SpaceRest, with_images, both, KeepsFound, rest_by_space}
 
 -- what is held once the parts are joined
@@ -28,4 +29,4 @@ pub record CanRejoin (p : Parted) : Type 0 where
 
 -- the parts with a change of the rest of the space alone
 abbrev pub parted_by_space : (SpaceRest → SpaceRest) → Parted → Parted
-parted_by_space change p = record { volatile = p.volatile; written = p.written; rest = rest_by_space change p.rest }
+parted_by_space change p = record p { rest = rest_by_space change p.rest }

@@ -1,13 +1,12 @@
 -- What stays of a holding when its volatile and its written images are moved out.
-use Rattle.std.specs.Prelude.{ℕ, ◌≡◌, ◌≢◌, ◌<◌, ◌≤◌, ◌+◌, ◌↔◌, ◌⊎◌, List, [], ◌∷◌, Option, None, Some, refl}
+use Rattle.std.specs.Prelude.{ℕ, ◌≡◌, ◌≢◌, ◌<◌, ◌≤◌, ◌+◌, ◌↔◌, ◌⊎◌, List, [], ◌∷◌, Option, None, Some}
 use Rattle.std.specs.Option.{option_map}
 use Rattle.std.specs.FinMap as map
 use Rattle.std.specs.FinSet as set
-use Rattle.std.specs.Coded.{Coded, code_by, coded×, coded_ℕ, coded_list, coded_option}
 use Rattle.pm3_types.specs.Layout.{PageImage}
-use Rattle.pm3_page.specs.PageMap.{Images, PageMap, page_map_code}
+use Rattle.pm3_page.specs.PageMap.{Images, PageMap}
 use Rattle.pm3_access.specs.FreeList.{Numbers}
-use Rattle.pm3_access.specs.Holding.{HeldImages, HeldSpaceState, SpaceState, images_code, numbers_code}
+use Rattle.pm3_access.specs.Holding.{HeldImages, HeldSpaceState, SpaceState}
 
 -- a held space without its images as they are now
 pub record SpaceRest : Type 0 where
@@ -19,23 +18,11 @@ pub record SpaceRest : Type 0 where
   pub current : Option ℕ
   pub drawn : List ℕ
 
-abbrev pub space_rest_code : Coded SpaceRest
-space_rest_code =
-    code_by (ℕ × (Images × (Numbers × (ℕ × (Option ℕ × (Option ℕ × List ℕ))))))
-    (coded× coded_ℕ (coded× images_code (coded× numbers_code (coded× coded_ℕ (coded× (coded_option coded_ℕ) (coded× (coded_option coded_ℕ) (coded_list coded_ℕ)))))))
-    (λ s. (s.number, (s.found, (s.free, (s.room, (s.first, (s.current, s.drawn)))))))
-    (λ p. record { number = p.0; found = p.1.0; free = p.1.1.0; room = p.1.1.1.0; first = p.1.1.1.1.0; current = p.1.1.1.1.1.0; drawn = p.1.1.1.1.1.1 }) (λ _. refl)
-
 -- the pages held alone that were not written, with the room for the others, all images found, and the rest of the space
 pub record RestState : Type 0 where
   pub pages : PageMap
   pub found : Images
   pub space : Option SpaceRest
-
-abbrev pub rest_code : Coded RestState
-rest_code =
-    code_by (PageMap × (Images × Option SpaceRest)) (coded× page_map_code (coded× images_code (coded_option space_rest_code)))
-    (λ r. (r.pages, (r.found, r.space))) (λ p. record { pages = p.0; found = p.1.0; space = p.1.1 }) (λ _. refl)
 
 -- the space without its images as they are now, and with these
 abbrev pub rest_of : HeldSpaceState → SpaceRest
@@ -54,7 +41,7 @@ with_images volatile s = record {
 
 -- the space with other free pages and other room
 abbrev pub rest_with_free : SpaceRest → Numbers → ℕ → SpaceRest
-rest_with_free s free room = record { number = s.number; found = s.found; free = free; room = room; first = s.first; current = s.current; drawn = s.drawn }
+rest_with_free s free room = record s { free = free; room = room }
 
 -- the images with those of a list
 unfoldable pub added : Images → List (ℕ × PageImage) → Images
@@ -85,7 +72,7 @@ KeepsFound (Some s) volatile = (page : ℕ) → map.get volatile page ≡ None �
 
 -- a change of the rest of the held space alone
 abbrev pub rest_by_space : (SpaceRest → SpaceRest) → RestState → RestState
-rest_by_space change r = record { pages = r.pages; found = r.found; space = option_map change r.space }
+rest_by_space change r = record r { space = option_map change r.space }
 
 -- there is room for so many free pages; none is needed where no space is held
 abbrev pub HasRoomFor : Option SpaceRest → ℕ → Type 0
@@ -128,7 +115,7 @@ pub record Moves (page : ℕ) (found : Images) (pages written new_pages new_writ
   pub pages_room : new_pages.spare ≡ pages.spare + 1
   pub written_room : new_written.spare + 1 ≡ written.spare
 
--- one of the two
-abbrev pub IsSettled : ℕ → Images → PageMap → PageMap → PageMap → PageMap → Type 0
-IsSettled page found pages written new_pages new_written =
+-- the image of the page stays, or is moved
+abbrev pub StaysOrMoves : ℕ → Images → PageMap → PageMap → PageMap → PageMap → Type 0
+StaysOrMoves page found pages written new_pages new_written =
     Stays page found pages written new_pages new_written ⊎ ((image : PageImage) × Moves page found pages written new_pages new_written image)

@@ -2,7 +2,7 @@
 use Rattle.std.specs.Prelude.{ℕ, ◌+◌, ◌/◌, ◌%◌, ◌<◌, ◌&&◌, Bool, true, false, nat_lt, List, Option, None, Some, slice_index, slice_set}
 use Rattle.std.specs.Option.{option_map}
 use Rattle.std.specs.Int.{to_le_bytes, from_le_bytes, w64}
-use Rattle.pm3_types.specs.Fields.{Fields, has_refs, has_bytes}
+use Rattle.pm3_types.specs.Fields.{Fields, is_reference, has_refs, has_bytes}
 use Rattle.pm3_types.specs.Layout.{Sheet, PageImage, with_word_at}
 use Rattle.pm3_types.specs.PageForm.{map_at, tail_at}
 use Rattle.pm3_access.specs.declared.places.Place.{Place}
@@ -19,6 +19,12 @@ abbrev pub spot_by : Fields → ℕ → Place → Option Spot
 spot_by map len (Field f) = spot_if (nat_lt f map.count) (Word f)
 spot_by map len (Tail k) = spot_if (has_refs map.tail && nat_lt k len) (Word (map.count + k))
 spot_by map len (Byte k) = spot_if (has_bytes map.tail && nat_lt k len) (ByteOf (map.count + k / 8) (k % 8))
+
+-- addresses stand at this place of an object with this map, and names at that place of its record
+abbrev pub has_names : Fields → Place → Bool
+has_names map (Field f) = is_reference map f
+has_names map (Tail k) = has_refs map.tail
+has_names map (Byte k) = false
 
 abbrev pub spot_in : Option Fields → ℕ → Place → Option Spot
 spot_in None len place = None

@@ -19,7 +19,8 @@ pub(crate) struct FreePages {
 impl Model for FreePages {
     ghost use Rattle.std.specs.Prelude.{◌+◌, ◌≤◌, length, vec_capacity};
     ghost use Rattle.std.specs.FinSet as set;
-    ghost use Rattle.pm3_access.specs.FreeList.{FreeList, free_list_code};
+    ghost use Rattle.pm3_access.specs.FreeList.{FreeList};
+    ghost use Rattle.pm3_access.specs.Codes.{free_list_code};
 
     ghost Value = { FreeList };
 

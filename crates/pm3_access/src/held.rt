@@ -1,16 +1,15 @@
 //! What one transaction holds.
-ghost use Rattle.std.specs.Prelude.{◌≡◌, ℕ, ◌<◌, ◌≤◌, ◌-◌, ◌+◌, ◌^◌, max, true, false, None, Some, length, slice_get, List, MatchResult, is_some, IfErr, IfSome, OnOk, OnErr, MatchOption};
+ghost use Rattle.std.specs.Prelude.{◌≡◌, ℕ, Bool, ◌<◌, ◌≤◌, ◌-◌, ◌+◌, ◌^◌, max, true, false, None, Some, length, slice_get, List, MatchResult, is_some, IfErr, IfSome, OnOk, OnErr, MatchOption};
 ghost use Rattle.std.specs.Option.{option_copied};
 ghost use Rattle.std.specs.FinMap as map;
 ghost use Rattle.std.specs.FinSet as set;
 ghost use Rattle.pm3_page.specs.Next.{IsNext};
 ghost use Rattle.pm3_types.specs.Fields.{Fields};
 ghost use Rattle.pm3_types.specs.Layout.{blank_sheet, has_tail, size_by, is_address, page_in};
-ghost use Rattle.pm3_types.specs.PageForm.{IsSound};
-ghost use Rattle.pm3_access.specs.Access.{is_object_held, AreSound, value_held, value_written};
+ghost use Rattle.pm3_access.specs.Access.{is_object_held, AreSound, HaveForm, ImageHasForm, value_held, value_written};
 ghost use Rattle.pm3_access.specs.Acts.{HaveGrown, IsReadStep, IsWriteStep, IsMakeStep, image_part, space_part};
 ghost use Rattle.pm3_access.specs.Making.{IsMade};
-ghost use Rattle.pm3_access.specs.Sound.{AreSoundImages, IsSoundValue};
+ghost use Rattle.pm3_access.specs.Sound.{ImagesHaveForm, IsReferenceFor};
 ghost use Rattle.pm3_access.specs.Spots.{IsValueFor};
 ghost use Rattle.pm3_access.specs.Holding.{Holding, HeldSpaceState, nothing_held, image_in, with_admitted, admitted, with_held_space, HasRoom, FreeIs, IsUndone, by_space, grown, with_free};
 
@@ -35,7 +34,8 @@ pub struct Held {
 
 impl Model for Held {
     ghost use Rattle.pm3_access.specs.Acts.{AreInPlace};
-    ghost use Rattle.pm3_access.specs.Holding.{Holding, holding_code, AreFound};
+    ghost use Rattle.pm3_access.specs.Holding.{Holding, AreFound};
+    ghost use Rattle.pm3_access.specs.Codes.{holding_code};
 
     ghost Value = { Holding };
 
@@ -50,7 +50,7 @@ impl Held {
     /// Holds nothing. It keeps `alloc` and takes memory as pages are admitted.
     pub fn new(alloc: Global) -> Held
         ensures nothing { result ≡ nothing_held }
-        ensures sound { (catalog : List Fields) (pages : ℕ) → AreSound catalog BASE pages result }
+        ensures form { (catalog : List Fields) (refers : ℕ → Bool) → HaveForm catalog refers result }
     {
         Held {
             alloc,
@@ -64,7 +64,7 @@ impl Held {
         requires { image_in self.old image.page ≡ None }
         ensures admitted { OnOk result (self.new ≡ admitted self.old image) }
         ensures same { OnErr result (self.new ≡ self.old) }
-        ensures sound { (catalog : List Fields) (pages : ℕ) → AreSound catalog BASE pages self.old → IsSound catalog BASE pages image → AreSound catalog BASE pages self.new }
+        ensures form { (catalog : List Fields) (refers : ℕ → Bool) → HaveForm catalog refers self.old → ImageHasForm catalog refers image → HaveForm catalog refers self.new }
         ensures parts { OnOk result ((catalog : List Fields) → HaveGrown catalog BASE self.old self.new (λ book. image_part catalog BASE book image)) }
         ensures refused { IfErr result (λ refusal. refusal.1 ≡ image) }
     {
@@ -77,7 +77,7 @@ impl Held {
         requires absent { (page : ℕ) → map.contains_key space.images page ≡ true → image_in self.old page ≡ None }
         ensures admitted { OnOk result (self.new ≡ with_held_space self.old space) }
         ensures same { OnErr result (self.new ≡ self.old) }
-        ensures sound { (catalog : List Fields) (pages : ℕ) → AreSound catalog BASE pages self.old → AreSoundImages catalog BASE pages space.images → AreSound catalog BASE pages self.new }
+        ensures form { (catalog : List Fields) (refers : ℕ → Bool) → HaveForm catalog refers self.old → ImagesHaveForm catalog refers space.images → HaveForm catalog refers self.new }
         ensures parts { OnOk result ((catalog : List Fields) → HaveGrown catalog BASE self.old self.new (λ book. space_part catalog BASE book space)) }
         ensures refused { IfErr result (λ refusal. refusal.1 ≡ space) }
     {
@@ -125,7 +125,7 @@ impl Held {
         requires absent { image_in self.old image.page ≡ None }
         ensures grown { OnOk result (self.new ≡ by_space (λ s. grown s image) self.old) }
         ensures same { OnErr result (self.new ≡ self.old) }
-        ensures sound { (catalog : List Fields) (pages : ℕ) → 3 ≤ image.page → AreSound catalog BASE pages self.old → AreSound catalog BASE pages self.new }
+        ensures form { (catalog : List Fields) (refers : ℕ → Bool) → 3 ≤ image.page → HaveForm catalog refers self.old → HaveForm catalog refers self.new }
         ensures refused { IfErr result (λ refusal. refusal.1 ≡ image) }
     {
         let Some(space) = &mut self.space else {
@@ -139,7 +139,7 @@ impl Held {
         requires { is_some self.old.space ≡ true }
         ensures room { OnOk result (self.new ≡ by_space (λ s. with_free s s.free (max s.room more)) self.old) }
         ensures refused { OnErr result (self.new ≡ self.old) }
-        ensures sound { (catalog : List Fields) (pages : ℕ) → AreSound catalog BASE pages self.old → AreSound catalog BASE pages self.new }
+        ensures form { (catalog : List Fields) (refers : ℕ → Bool) → HaveForm catalog refers self.old → HaveForm catalog refers self.new }
     {
         let Some(space) = &mut self.space else {
             unreachable!()
@@ -151,7 +151,7 @@ impl Held {
     pub fn add_free(&mut self, page: PageNo)
         requires { HasRoom self.old.space }
         ensures added { self.new ≡ by_space (λ s. with_free s (set.insert s.free page) (s.room - 1)) self.old }
-        ensures sound { (catalog : List Fields) (pages : ℕ) → AreSound catalog BASE pages self.old → AreSound catalog BASE pages self.new }
+        ensures form { (catalog : List Fields) (refers : ℕ → Bool) → HaveForm catalog refers self.old → HaveForm catalog refers self.new }
     {
         let Some(space) = &mut self.space else {
             unreachable!()
@@ -164,7 +164,7 @@ impl Held {
         requires { is_some self.old.space ≡ true }
         ensures least { FreeIs self.old.space (λ free. IsNext (set.contains free) 0 result) }
         ensures taken { MatchOption result (self.new ≡ self.old) (λ page. self.new ≡ by_space (λ s. with_free s (set.remove s.free page) (s.room + 1)) self.old) }
-        ensures sound { (catalog : List Fields) (pages : ℕ) → AreSound catalog BASE pages self.old → AreSound catalog BASE pages self.new }
+        ensures form { (catalog : List Fields) (refers : ℕ → Bool) → HaveForm catalog refers self.old → HaveForm catalog refers self.new }
     {
         let Some(space) = &mut self.space else {
             unreachable!()
@@ -199,7 +199,7 @@ impl Held {
         requires value { IsValueFor place value }
         ensures written { MatchResult result (λ _. value_written catalog.now BASE self.old at place value ≡ Some self.new) (λ _. (value_written catalog.now BASE self.old at place value ≡ None) × (self.new ≡ self.old)) }
         ensures step { MatchResult result (λ _. IsWriteStep catalog.now BASE self.old at place value (Some self.new)) (λ _. IsWriteStep catalog.now BASE self.old at place value None) }
-        ensures sound { (pages : ℕ) → AreSound catalog.now BASE pages self.old → IsSoundValue catalog.now BASE pages self.old at place value → AreSound catalog.now BASE pages self.new }
+        ensures form { (refers : ℕ → Bool) → HaveForm catalog.now refers self.old → IsReferenceFor catalog.now BASE refers self.old at place value → HaveForm catalog.now refers self.new }
     {
         let page = page_of(at);
         if self.pages.has(page) {
@@ -220,6 +220,7 @@ impl Held {
         requires small { size_by (slice_get catalog.now ty) tail ≤ 510 }
         ensures made { IsMade BASE catalog.now self.old ty tail name result self.new }
         ensures step { IfSome result (λ at. IsMakeStep catalog.now BASE self.old ty tail name at self.new) }
+        ensures form { (refers : ℕ → Bool) → refers 0 ≡ true → HaveForm catalog.now refers self.old → HaveForm catalog.now refers self.new }
         ensures sound { (pages : ℕ) → AreSound catalog.now BASE pages self.old → AreSound catalog.now BASE pages self.new }
     {
         let Some(space) = &mut self.space else {

@@ -8,7 +8,8 @@ ghost use Rattle.pm3_access.specs.Access.{begins_in, images_written};
 ghost use Rattle.pm3_access.specs.Making.{IsMadeAmong};
 ghost use Rattle.pm3_access.specs.Sound.{HasLowPage};
 ghost use Rattle.pm3_access.specs.Spots.{IsValueFor};
-ghost use Rattle.pm3_access.specs.Holding.{IsAtHome, no_images, as_found, with_admitted, with_grown};
+ghost use Rattle.pm3_access.specs.Holding.{no_images, as_found, with_admitted, with_grown};
+ghost use Rattle.pm3_page.specs.PageMap.{IsAtHome};
 
 use crate::objects::{place_object, write_place};
 use crate::places::{NoPlace, Place};
@@ -25,7 +26,8 @@ pub(crate) struct HeldPages {
 }
 
 impl Model for HeldPages {
-    ghost use Rattle.pm3_access.specs.Holding.{HeldImages, held_images_code, AreHeld};
+    ghost use Rattle.pm3_access.specs.Holding.{HeldImages, AreHeld};
+    ghost use Rattle.pm3_access.specs.Codes.{held_images_code};
 
     ghost Value = { HeldImages };
 

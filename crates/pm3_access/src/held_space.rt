@@ -10,7 +10,8 @@ ghost use Rattle.pm3_access.specs.Access.{begins_in, space_written};
 ghost use Rattle.pm3_access.specs.Making.{IsMadeIn, current_in};
 ghost use Rattle.pm3_access.specs.Sound.{HasLowPage};
 ghost use Rattle.pm3_access.specs.Spots.{IsValueFor};
-ghost use Rattle.pm3_access.specs.Holding.{IsAtHome, held_space, grown, with_free, undone_space};
+ghost use Rattle.pm3_access.specs.Holding.{held_space, grown, with_free, undone_space};
+ghost use Rattle.pm3_page.specs.PageMap.{IsAtHome};
 
 use crate::free_pages::FreePages;
 use crate::held_pages::HeldPages;
@@ -37,7 +38,8 @@ pub(crate) struct HeldSpace {
 
 impl Model for HeldSpace {
     ghost use Rattle.std.specs.Prelude.{◌+◌, ◌≤◌, length};
-    ghost use Rattle.pm3_access.specs.Holding.{HeldSpaceState, held_space_code};
+    ghost use Rattle.pm3_access.specs.Holding.{HeldSpaceState};
+    ghost use Rattle.pm3_access.specs.Codes.{held_space_code};
 
     ghost Value = { HeldSpaceState };
 

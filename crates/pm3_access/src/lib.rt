@@ -42,15 +42,13 @@ mod access_tests;
 mod laws;
 #[cfg(test)]
 mod parting_tests;
-mod soundness;
 #[cfg(test)]
 mod tests;
 
 pub use held::Held;
-pub use laws::{admit_law, grow_law, make_law, place_law, read_law, write_law};
+pub use laws::{admit_law, grow_law, make_law, place_law, read_law, sound_law, write_law};
 pub use parted::Parted;
 pub use places::{NoPlace, Place};
 pub use rest::Rest;
-pub use soundness::sound_law;
 pub use spaces::Space;
 pub use undone::Undone;

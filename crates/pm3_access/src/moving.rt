@@ -1,8 +1,8 @@
 //! Images that move from some pages to others.
 ghost use Rattle.std.specs.Prelude.{◌≡◌, ◌≢◌, ◌+◌, ◌<◌, ◌≤◌, ◌↔◌, ℕ, true, None, Some, IsTrue};
 ghost use Rattle.std.specs.FinMap as map;
-ghost use Rattle.pm3_access.specs.Holding.{IsAtHome};
-ghost use Rattle.pm3_access.specs.Parts.{both, AreWritten, AreUnwritten, IsSettled};
+ghost use Rattle.pm3_page.specs.PageMap.{IsAtHome};
+ghost use Rattle.pm3_access.specs.Parts.{both, AreWritten, AreUnwritten, StaysOrMoves};
 
 use pm3_page::{PageNo, Pages};
 
@@ -29,7 +29,7 @@ fn settle(pages: &mut Pages, found: &Pages, written: &mut Pages, page: PageNo)
     requires home { IsAtHome pages.old.images }
     requires absent { map.get written.old.images page ≡ None }
     requires room { 0 < written.old.spare }
-    ensures { IsSettled page found.now.images pages.old written.old pages.new written.new }
+    ensures { StaysOrMoves page found.now.images pages.old written.old pages.new written.new }
 {
     if is_as_found(pages, found, page) {
         return;

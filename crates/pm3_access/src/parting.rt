@@ -4,7 +4,8 @@ ghost use Rattle.std.specs.Option.{option_map};
 ghost use Rattle.std.specs.FinMap as map;
 ghost use Rattle.std.specs.FinSet as set;
 ghost use Rattle.pm3_page.specs.Next.{IsNext};
-ghost use Rattle.pm3_access.specs.Holding.{IsAtHome, IsUndone, by_space, with_free};
+ghost use Rattle.pm3_access.specs.Holding.{IsUndone, by_space, with_free};
+ghost use Rattle.pm3_page.specs.PageMap.{IsAtHome};
 ghost use Rattle.pm3_access.specs.Parts.{AreWritten, AreUnwritten, images_of_space, KeepsFound, rest_of, rest_with_free, HasRestRoom, RestFreeIs, HasRoomFor, IsFinished};
 ghost use Rattle.pm3_access.specs.Parting.{joined, CanRejoin, parted_by_space};
 

@@ -22,8 +22,10 @@ pub struct Rest {
 }
 
 impl Model for Rest {
-    ghost use Rattle.pm3_access.specs.Parts.{RestState, rest_code};
-    ghost use Rattle.pm3_access.specs.Holding.{IsAtHome, AreFound};
+    ghost use Rattle.pm3_access.specs.Parts.{RestState};
+    ghost use Rattle.pm3_access.specs.Codes.{rest_code};
+    ghost use Rattle.pm3_access.specs.Holding.{AreFound};
+    ghost use Rattle.pm3_page.specs.PageMap.{IsAtHome};
 
     ghost Value = { RestState };
 

@@ -2,7 +2,8 @@
 ghost use Rattle.std.specs.Prelude.{◌≡◌, ◌+◌, ◌<◌, ◌≤◌, ◌-◌, max, None, Some, OnOk, OnErr, MatchOption};
 ghost use Rattle.std.specs.FinSet as set;
 ghost use Rattle.pm3_page.specs.Next.{IsNext};
-ghost use Rattle.pm3_access.specs.Holding.{IsAtHome, AreHeld, undone_space};
+ghost use Rattle.pm3_access.specs.Holding.{AreHeld, undone_space};
+ghost use Rattle.pm3_page.specs.PageMap.{IsAtHome};
 ghost use Rattle.pm3_access.specs.Parts.{KeepsFound, rest_of, with_images, rest_with_free, finished_space};
 
 use crate::held_pages::HeldPages;
@@ -22,8 +23,9 @@ pub(crate) struct RestSpace {
 }
 
 impl Model for RestSpace {
-    ghost use Rattle.pm3_access.specs.Parts.{SpaceRest, space_rest_code};
-    ghost use Rattle.pm3_access.specs.Holding.{IsAtHome};
+    ghost use Rattle.pm3_access.specs.Parts.{SpaceRest};
+    ghost use Rattle.pm3_access.specs.Codes.{space_rest_code};
+    ghost use Rattle.pm3_page.specs.PageMap.{IsAtHome};
 
     ghost Value = { SpaceRest };
 

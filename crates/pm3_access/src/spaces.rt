@@ -18,7 +18,9 @@ pub struct Space {
 }
 
 impl Model for Space {
-    ghost use Rattle.pm3_access.specs.Holding.{SpaceState, space_code, IsAtHome};
+    ghost use Rattle.pm3_access.specs.Holding.{SpaceState};
+    ghost use Rattle.pm3_access.specs.Codes.{space_code};
+    ghost use Rattle.pm3_page.specs.PageMap.{IsAtHome};
 
     ghost Value = { SpaceState };
 

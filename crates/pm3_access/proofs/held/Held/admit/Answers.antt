@@ -13,10 +13,10 @@ returns-clause-admitted c = search rules
 pub returns-clause-same : goal.returns-clause-same
 returns-clause-same c = search rules
 
-pub returns-clause-sound : goal.returns-clause-sound
-returns-clause-sound c =
-    λ catalog pages sound fine. sound_result catalog BASE pages c.admit.result c.args.self.now _ (admitted c.args.self.now c.args.image) (returns-clause-admitted c) (returns-clause-same c)
-    (sound_admitted catalog BASE pages c.args.self.now c.args.image fine) sound
+pub returns-clause-form : goal.returns-clause-form
+returns-clause-form c =
+    λ catalog refers sound fine. sound_result catalog BASE refers c.admit.result c.args.self.now _ (admitted c.args.self.now c.args.image) (returns-clause-admitted c) (returns-clause-same c)
+    (sound_admitted catalog BASE refers c.args.self.now c.args.image fine) sound
 
 pub invariant_of-self : goal.invariant_of-self
 invariant_of-self c = (

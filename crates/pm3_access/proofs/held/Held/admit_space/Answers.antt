@@ -1,6 +1,6 @@
 use Rattle.std.proofs.Common.{rules, ◌≡◌, ℕ, true, None, sym, subst}
 use Rattle.pm3_core.specs.declared.naming.TheConstants.{BASE}
-use Rattle.pm3_access.specs.Access.{AreSound}
+use Rattle.pm3_access.specs.Access.{HaveForm}
 use Rattle.std.specs.FinMap as map
 use Rattle.pm3_access.specs.Holding.{image_in}
 use Rattle.pm3_access.proofs.CallPlaces.{of, space_place}
@@ -11,9 +11,9 @@ use Rattle.pm3_access.proofs.held.Held.admit_space.Goals as goal
 pub returns-in-Ok-clause-admitted : goal.returns-in-Ok-clause-admitted
 returns-in-Ok-clause-admitted c = search rules
 
-pub returns-in-Ok-clause-sound : goal.returns-in-Ok-clause-sound
-returns-in-Ok-clause-sound c =
-    λ catalog pages sound fine. subst (AreSound catalog BASE pages) (sym (returns-in-Ok-clause-admitted c)) (sound_held_space catalog BASE pages c.args.self.now c.args.space c.requires.none fine sound)
+pub returns-in-Ok-clause-form : goal.returns-in-Ok-clause-form
+returns-in-Ok-clause-form c =
+    λ catalog refers sound fine. subst (HaveForm catalog refers) (sym (returns-in-Ok-clause-admitted c)) (sound_held_space catalog BASE refers c.args.self.now c.args.space c.requires.none fine sound)
 
 pub invariant_of-self : goal.invariant_of-self
 invariant_of-self c =

@@ -11,10 +11,10 @@ returns-clause-grown c = search rules
 pub returns-clause-same : goal.returns-clause-same
 returns-clause-same c = search rules
 
-pub returns-clause-sound : goal.returns-clause-sound
-returns-clause-sound c =
-    λ catalog pages high sound. sound_result catalog BASE pages c.grow.result c.args.self.now _ (by_space (λ s. grown s c.args.image) c.args.self.now) (returns-clause-grown c) (returns-clause-same c)
-    (sound_grown catalog BASE pages c.args.self.now c.args.image c.requires.blank high) sound
+pub returns-clause-form : goal.returns-clause-form
+returns-clause-form c =
+    λ catalog refers high sound. sound_result catalog BASE refers c.grow.result c.args.self.now _ (by_space (λ s. grown s c.args.image) c.args.self.now) (returns-clause-grown c) (returns-clause-same c)
+    (sound_grown catalog BASE refers c.args.self.now c.args.image c.requires.blank high) sound
 
 pub invariant_of-self : goal.invariant_of-self
 invariant_of-self c =

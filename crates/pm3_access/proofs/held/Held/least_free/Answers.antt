@@ -8,8 +8,8 @@ use Rattle.pm3_access.proofs.held.Held.least_free.Goals as goal
 pub returns-clause-taken : goal.returns-clause-taken
 returns-clause-taken c = search rules
 
-pub returns-clause-sound : goal.returns-clause-sound
-returns-clause-sound c =
-    λ catalog pages sound. sound_option catalog BASE pages c.least_free.result c.args.self.now _ (λ page. by_space (λ s. with_free s (set.remove s.free page) (s.room + 1)) c.args.self.now)
+pub returns-clause-form : goal.returns-clause-form
+returns-clause-form c =
+    λ catalog refers sound. sound_option catalog BASE refers c.least_free.result c.args.self.now _ (λ page. by_space (λ s. with_free s (set.remove s.free page) (s.room + 1)) c.args.self.now)
     (returns-clause-taken c)
-    (λ page. sound_by_space catalog BASE pages (λ s. with_free s (set.remove s.free page) (s.room + 1)) c.args.self.now (λ s. refl) sound) sound
+    (λ page. sound_by_space catalog BASE refers (λ s. with_free s (set.remove s.free page) (s.room + 1)) c.args.self.now (λ s. refl) sound) sound

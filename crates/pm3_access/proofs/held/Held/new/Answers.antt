@@ -1,6 +1,6 @@
 use Rattle.std.proofs.Common.{rules, None, sym, subst}
 use Rattle.pm3_core.specs.declared.naming.TheConstants.{BASE}
-use Rattle.pm3_access.specs.Access.{AreSound}
+use Rattle.pm3_access.specs.Access.{HaveForm}
 use Rattle.pm3_access.specs.Acts.{AreInPlace}
 use Rattle.pm3_access.specs.Holding.{HeldImages, AreFound}
 use Rattle.pm3_access.proofs.CallPlaces.{of}
@@ -11,8 +11,8 @@ use Rattle.pm3_access.proofs.held.Held.new.Goals as goal
 pub returns-clause-nothing : goal.returns-clause-nothing
 returns-clause-nothing c = search rules
 
-pub returns-clause-sound : goal.returns-clause-sound
-returns-clause-sound c = λ catalog pages. subst (AreSound catalog BASE pages) (sym (returns-clause-nothing c)) (sound_nothing catalog BASE pages)
+pub returns-clause-form : goal.returns-clause-form
+returns-clause-form c = λ catalog refers. subst (HaveForm catalog refers) (sym (returns-clause-nothing c)) (sound_nothing catalog BASE refers)
 
 pub invariant_of-result : goal.invariant_of-result
 invariant_of-result c = subst (λ (pages : HeldImages). AreFound pages.left pages.found × AreInPlace (of pages None)) (sym c.new.ensures) (λ page none. none, nothing_in_place)

@@ -10,8 +10,8 @@ returns-clause-room c = search rules
 pub returns-clause-refused : goal.returns-clause-refused
 returns-clause-refused c = search rules
 
-pub returns-clause-sound : goal.returns-clause-sound
-returns-clause-sound c =
-    λ catalog pages sound. sound_result catalog BASE pages c.reserve_free.result c.args.self.now _ (by_space (λ s. with_free s s.free (max s.room c.args.more)) c.args.self.now)
+pub returns-clause-form : goal.returns-clause-form
+returns-clause-form c =
+    λ catalog refers sound. sound_result catalog BASE refers c.reserve_free.result c.args.self.now _ (by_space (λ s. with_free s s.free (max s.room c.args.more)) c.args.self.now)
     (returns-clause-room c) (returns-clause-refused c)
-    (sound_by_space catalog BASE pages (λ s. with_free s s.free (max s.room c.args.more)) c.args.self.now (λ s. refl)) sound
+    (sound_by_space catalog BASE refers (λ s. with_free s s.free (max s.room c.args.more)) c.args.self.now (λ s. refl)) sound

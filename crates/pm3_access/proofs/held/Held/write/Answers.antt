@@ -20,9 +20,9 @@ returns-then-has-clause-written c = search rules
 pub returns-then-has-clause-step : goal.returns-then-has-clause-step
 returns-then-has-clause-step c = write_call c.args.catalog.now BASE c.args.self.now _ c.args.at c.args.place c.args.value c.requires.value c.write.result (returns-then-has-clause-written c)
 
-pub returns-then-has-clause-sound : goal.returns-then-has-clause-sound
-returns-then-has-clause-sound c =
-    λ pages sound value. sound_value c.args.catalog.now BASE pages c.args.self.now c.args.at c.args.value c.args.place c.requires.object c.requires.value value sound _ c.write.result
+pub returns-then-has-clause-form : goal.returns-then-has-clause-form
+returns-then-has-clause-form c =
+    λ refers sound value. sound_value c.args.catalog.now BASE refers c.args.self.now c.args.at c.args.value c.args.place c.requires.object c.requires.value value sound _ c.write.result
     (returns-then-has-clause-written c)
 
 pub returns-clause-written : goal.returns-clause-written
@@ -31,9 +31,9 @@ returns-clause-written c = search rules
 pub returns-clause-step : goal.returns-clause-step
 returns-clause-step c = write_call c.args.catalog.now BASE c.args.self.now _ c.args.at c.args.place c.args.value c.requires.value c.write-2.result (returns-clause-written c)
 
-pub returns-clause-sound : goal.returns-clause-sound
-returns-clause-sound c =
-    λ pages sound value. sound_value c.args.catalog.now BASE pages c.args.self.now c.args.at c.args.value c.args.place c.requires.object c.requires.value value sound _ c.write-2.result
+pub returns-clause-form : goal.returns-clause-form
+returns-clause-form c =
+    λ refers sound value. sound_value c.args.catalog.now BASE refers c.args.self.now c.args.at c.args.value c.args.place c.requires.object c.requires.value value sound _ c.write-2.result
     (returns-clause-written c)
 
 pub invariant_of-self : goal.invariant_of-self
