@@ -43,6 +43,7 @@ rejoin_by free room old new is can = rejoin_same (parted_by_space (part_change f
   found = can.found;
   apart = can.apart;
   room = can.room;
+  written_room = can.written_room;
   kept = can.kept;
   space_kept = kept_still free room old.volatile.images old.rest.space can.space_kept;
   places = subst AreInPlace (sym (joined_by free room old (parted_by_space (part_change free room) old) refl)) (still_in_place (joined old) (held_change free room) (λ s. refl) can.places);

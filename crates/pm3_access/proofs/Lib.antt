@@ -32,3 +32,4 @@ pub mod Within
 pub mod WriteSteps
 pub mod Writing
 pub mod BodyWriting
+pub mod PartRoom

@@ -198,6 +198,7 @@ pub record IsSorted (left : PageMap) (found : Images) (others written : PageMap)
   pub others_so : AreUnwritten (record { left = left.images; found = found }) others.images
   pub both_so : both others.images written.images ≡ left.images
   pub room_so : map.len written.images ≤ others.spare
+  pub written_room_so : map.len others.images ≤ written.spare
 
 pub sorted_all : (left : PageMap) (found : Images) (others written : PageMap) (n : ℕ) → ((q : ℕ) → n ≤ q → map.contains_key others.images q ≡ false)
     → IsSortedTo left found others written n → IsSorted left found others written
@@ -209,6 +210,7 @@ sorted_all left found others written n none sorted =
       others_so = λ q. others_at _ _ _ _ (at q);
       both_so = same _ _ (λ q. get_both others.images written.images q ∙ both_at _ (map.get found q) _ _ (at q));
       room_so = omega arith;
+      written_room_so = sorted.room;
     }
 
 -- images are put with others: below n they are with them, and from n on all are where they were
@@ -216,9 +218,10 @@ pub record IsPutTo (first more pages others : Images) (n : ℕ) : Type 0 where
   pub below : (q : ℕ) → q < n → map.get pages q ≡ option_or (map.get more q) (map.get first q)
   pub above : (q : ℕ) → n ≤ q → map.get pages q ≡ map.get first q
   pub rest : (q : ℕ) → n ≤ q → map.get others q ≡ map.get more q
+  pub gone : (q : ℕ) → q < n → map.get others q ≡ None
 
 pub put_none : (first more : Images) → IsPutTo first more first more 0
-put_none first more = record { below = λ q lt. absurd (omega arith); above = λ q le. refl; rest = λ q le. refl }
+put_none first more = record { below = λ q lt. absurd (omega arith); above = λ q le. refl; rest = λ q le. refl; gone = λ q lt. absurd (omega arith) }
 
 pub put_more : (first more pages others : Images) (n page : ℕ) (image : PageImage) (pages' others' : Images) → n ≤ page → ((q : ℕ) → n ≤ q → q < page → map.contains_key others q ≡ false)
     → map.get others page ≡ Some image → pages' ≡ map.insert pages page image → others' ≡ map.remove others page → IsPutTo first more pages others n → IsPutTo first more pages' others' (page + 1)
@@ -237,6 +240,10 @@ put_more first more pages others n page image pages' others' le none is put take
       ];
       above = λ q ge. let ne : q ≢ page = λ e. omega arith in kept q ne ∙ at.above q (omega arith);
       rest = λ q ge. let ne : q ≢ page = λ e. omega arith in kept' q ne ∙ at.rest q (omega arith);
+      gone = λ q lt. elim (cases_eq q page) [
+        | inl e ↦ ap (λ m. map.get m q) taken ∙ get_gone others page q e
+        | inr ne ↦ elim (cases_lt q n) [ inl old ↦ kept' q ne ∙ at.gone q old | inr ge ↦ kept' q ne ∙ none_of (map.get others q) (none q ge (omega arith)) ]
+      ];
     }
 
 pub put_whole : (first more pages others : Images) (n : ℕ) → ((q : ℕ) → n ≤ q → map.contains_key others q ≡ false) → IsPutTo first more pages others n → pages ≡ both first more
@@ -244,3 +251,10 @@ put_whole first more pages others n none at = same _ _ (λ q. elim (cases_lt q n
   | inl lt ↦ at.below q lt
   | inr ge ↦ at.above q ge ∙ sym (ap (λ o. option_or o (map.get first q)) (sym (at.rest q ge) ∙ none_of (map.get others q) (none q ge)))
 ] ∙ sym (get_both first more q))
+
+-- all were put
+pub put_empty : (first more pages others : Images) (n : ℕ) → ((q : ℕ) → n ≤ q → map.contains_key others q ≡ false) → IsPutTo first more pages others n → others ≡ map.empty
+put_empty first more pages others n none at = same _ _ (λ q. elim (cases_lt q n) [
+  | inl lt ↦ at.gone q lt
+  | inr ge ↦ none_of (map.get others q) (none q ge)
+] ∙ sym (get-empty nat_cmp q))

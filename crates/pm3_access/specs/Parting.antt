@@ -15,7 +15,7 @@ joined p = record {
   space = option_map (with_images p.volatile.images) p.rest.space;
 }
 
--- all images stand under their own pages; the written ones were found, are apart from the others, and have room beside them; and each page
+-- all images stand under their own pages; the written ones were found, are apart from the others, and each have room for the other; and each page
 -- that was found is there; and what is held once they are joined is in place
 pub record CanRejoin (p : Parted) : Type 0 where
   pub written_home : IsAtHome p.written.images
@@ -23,6 +23,7 @@ pub record CanRejoin (p : Parted) : Type 0 where
   pub found : AreFound p.written.images p.rest.found
   pub apart : (page : ℕ) → map.get p.written.images page ≢ None → map.get p.rest.pages.images page ≡ None
   pub room : map.len p.written.images ≤ p.rest.pages.spare
+  pub written_room : map.len p.rest.pages.images ≤ p.written.spare
   pub kept : (page : ℕ) → map.get p.written.images page ≡ None → map.get p.rest.pages.images page ≡ None → map.get p.rest.found page ≡ None
   pub space_kept : KeepsFound p.rest.space p.volatile.images
   pub places : AreInPlace (joined p)

@@ -52,6 +52,11 @@ added images (e ∷ es) = map.insert (added images es) e.0 e.1
 abbrev pub both : Images → Images → Images
 both images others = added images (map.entries others)
 
+-- pages without images, with room for all of these
+pub record HaveRoomFor (images : Images) (pages : PageMap) : Type 0 where
+  pub none : pages.images ≡ map.empty
+  pub room : map.len images ≤ pages.spare
+
 -- exactly the images that are not as they were found
 abbrev pub AreWritten : HeldImages → Images → Type 0
 AreWritten h written = (page : ℕ) (image : PageImage) → (map.get written page ≡ Some image) ↔ ((map.get h.left page ≡ Some image) × (map.get h.found page ≢ Some image))

@@ -30,10 +30,13 @@ pub struct Held {
     pub(crate) alloc: Global,
     pub(crate) pages: HeldPages,
     pub(crate) space: Option<HeldSpace>,
+    /// No images, and room for those of all pages held alone, so that to part them takes no memory.
+    pub(crate) written: Pages,
 }
 
 impl Model for Held {
     ghost use Rattle.pm3_access.specs.Acts.{AreInPlace};
+    ghost use Rattle.pm3_access.specs.Parts.{HaveRoomFor};
     ghost use Rattle.pm3_access.specs.Holding.{Holding, AreFound};
     ghost use Rattle.pm3_access.specs.Codes.{holding_code};
 
@@ -43,7 +46,7 @@ impl Model for Held {
 
     ghost view = { λ h. record { pages = h.pages; space = h.space } };
 
-    ghost invariant = { λ h. AreFound h.pages.left h.pages.found × AreInPlace (record { pages = h.pages; space = h.space }) };
+    ghost invariant = { λ h. AreFound h.pages.left h.pages.found × AreInPlace (record { pages = h.pages; space = h.space }) × HaveRoomFor h.pages.left h.written };
 }
 
 impl Held {
@@ -56,6 +59,7 @@ impl Held {
             alloc,
             pages: HeldPages::new(alloc),
             space: None,
+            written: Pages::new(alloc),
         }
     }
 
@@ -68,6 +72,9 @@ impl Held {
         ensures parts { OnOk result ((catalog : List Fields) → HaveGrown catalog BASE self.old self.new (λ book. image_part catalog BASE book image)) }
         ensures refused { IfErr result (λ refusal. refusal.1 ≡ image) }
     {
+        let Ok(()) = self.written.reserve(self.pages.len() + 1) else {
+            return Err((Memory, image));
+        };
         self.pages.admit(image)
     }
 
@@ -236,13 +243,14 @@ impl Held {
         ensures space { IsUndone self.space result.space }
     {
         let Held {
-            alloc,
+            alloc: _,
             pages,
             space,
+            written,
         } = self;
         Undone {
             pages: pages.into_found(),
-            written: Pages::new(alloc),
+            written,
             space: match space {
                 Some(space) => Some(space.undo()),
                 None => None,

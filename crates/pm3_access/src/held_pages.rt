@@ -68,6 +68,14 @@ impl HeldPages {
         self.left.get(page)
     }
 
+    /// The number of pages.
+    pub(crate) fn len(&self) -> u32
+        ensures count { result ≡ map.len self.now.left }
+        ensures few { result ≤ 16384 }
+    {
+        self.left.len()
+    }
+
     /// Whether a page is held.
     pub(crate) fn has(&self, page: PageNo) -> bool
         ensures { result ≡ map.contains_key self.now.left page }

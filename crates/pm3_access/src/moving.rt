@@ -2,7 +2,7 @@
 ghost use Rattle.std.specs.Prelude.{◌≡◌, ◌≢◌, ◌+◌, ◌<◌, ◌≤◌, ◌↔◌, ℕ, true, None, Some, IsTrue};
 ghost use Rattle.std.specs.FinMap as map;
 ghost use Rattle.pm3_page.specs.PageMap.{IsAtHome};
-ghost use Rattle.pm3_access.specs.Parts.{both, AreWritten, AreUnwritten, StaysOrMoves};
+ghost use Rattle.pm3_access.specs.Parts.{both, HaveRoomFor, AreWritten, AreUnwritten, StaysOrMoves};
 
 use pm3_page::{PageNo, Pages};
 
@@ -15,6 +15,7 @@ pub(crate) fn take_written(pages: &mut Pages, found: &Pages, written: &mut Pages
     ensures others { AreUnwritten (record { left = pages.old.images; found = found.now.images }) pages.new.images }
     ensures both { both pages.new.images written.new.images ≡ pages.old.images }
     ensures room { map.len written.new.images ≤ pages.new.spare }
+    ensures written_room { map.len pages.new.images ≤ written.new.spare }
 {
     let mut from = 0;
     while let Some(page) = pages.next(from) {
@@ -54,12 +55,14 @@ fn is_as_found(pages: &Pages, found: &Pages, page: PageNo) -> bool
     }
 }
 
-/// The pages with all images of others, in the room that was made.
-pub(crate) fn put_all(mut pages: Pages, mut others: Pages) -> Pages
+/// The pages with all images of others, in the room that was made, and the others without images.
+pub(crate) fn put_all(mut pages: Pages, mut others: Pages) -> (Pages, Pages)
     requires home { IsAtHome others.images }
     requires apart { (page : ℕ) → map.get others.images page ≢ None → map.get pages.images page ≡ None }
     requires room { map.len others.images ≤ pages.spare }
-    ensures { result.images ≡ both pages.images others.images }
+    requires others_room { map.len pages.images ≤ others.spare }
+    ensures both { result.0.images ≡ both pages.images others.images }
+    ensures others { HaveRoomFor result.0.images result.1 }
 {
     let mut from = 0;
     while let Some(page) = others.next(from) {
@@ -69,5 +72,5 @@ pub(crate) fn put_all(mut pages: Pages, mut others: Pages) -> Pages
         pages.put(image);
         from = page + 1;
     }
-    pages
+    (pages, others)
 }

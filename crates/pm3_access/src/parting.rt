@@ -1,5 +1,5 @@
 //! A holding is parted for a commit, and joined, undone or finished.
-ghost use Rattle.std.specs.Prelude.{◌≡◌, ◌+◌, ◌<◌, ◌≤◌, ◌-◌, true, max, None, Some, is_some, IfOk, IfErr, OnOk, OnErr, MatchOption};
+ghost use Rattle.std.specs.Prelude.{◌≡◌, ◌+◌, ◌<◌, ◌≤◌, ◌-◌, true, max, None, Some, is_some, IsOk, IfOk, OnOk, OnErr, MatchOption};
 ghost use Rattle.std.specs.Option.{option_map};
 ghost use Rattle.std.specs.FinMap as map;
 ghost use Rattle.std.specs.FinSet as set;
@@ -23,23 +23,20 @@ use std::alloc::Global;
 
 impl Held {
     /// Parts what is held for a commit: the images of the space, the images of the pages held alone that are not as they were
-    /// found, and all else. After a refusal it is given back as it was.
+    /// found, and all else. It takes no memory: the room was made as each page was admitted.
     pub fn part(self) -> Result<Parted, (Memory, Held)>
         ensures joined { IfOk result (λ parted. joined parted ≡ self) }
         ensures rejoin { IfOk result (λ parted. CanRejoin parted) }
         ensures volatile { IfOk result (λ parted. parted.volatile.images ≡ images_of_space self.space) }
         ensures written { IfOk result (λ parted. AreWritten self.pages parted.written.images) }
         ensures others { IfOk result (λ parted. AreUnwritten self.pages parted.rest.pages.images) }
-        ensures refused { IfErr result (λ refusal. refusal.1 ≡ self) }
+        ensures never_refused { IsOk result }
     {
-        let mut written = Pages::new(self.alloc);
-        let Ok(()) = written.reserve(self.pages.left.len()) else {
-            return Err((Memory, self));
-        };
         let Held {
             alloc,
             pages,
             space,
+            mut written,
         } = self;
         let HeldPages { mut left, found } = pages;
         take_written(&mut left, &found, &mut written);
@@ -81,10 +78,11 @@ impl Parted {
             found,
             space,
         } = rest;
-        let left = put_all(pages, written);
+        let (left, written) = put_all(pages, written);
         Held {
             alloc,
             pages: HeldPages { left, found },
+            written,
             space: match space {
                 Some(space) => Some(space.rejoin(volatile)),
                 None => None,

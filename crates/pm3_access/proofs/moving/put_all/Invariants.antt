@@ -7,6 +7,7 @@ abbrev pub invariant-loop-page : goal.invariant-loop-page
 invariant-loop-page l = record {
   put : IsPutTo l.fn.pages.images l.fn.others.images l.pages.images l.others.images l.from;
   room : map.len l.others.images ≤ l.pages.spare;
+  others_room : map.len l.pages.images ≤ l.others.spare;
   low : l.from ≤ 16384;
 }
 

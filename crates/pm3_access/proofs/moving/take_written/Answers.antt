@@ -25,4 +25,4 @@ loop-page-preserved c =
 pub returns : goal.returns
 returns c =
     let all = sorted_all c.args.pages.now c.args.found.now.images c.loop-page.pages c.loop-page.written c.loop-page.from c.in_default.ensures.next c.loop-page.invariant.sorted in
-    record { written = all.written_so; others = all.others_so; both = all.both_so; room = all.room_so }
+    record { written = all.written_so; others = all.others_so; both = all.both_so; room = all.room_so; written_room = all.written_room_so }

@@ -19,7 +19,7 @@ pub invariant_of-self : goal.invariant_of-self
 invariant_of-self c =
     let none : c.self.inside.space ≡ None = rw (← c.self.view_is) at c.requires.none in
     let absent : (page : ℕ) → map.contains_key c.args.space.images page ≡ true → image_in (of c.self.inside.pages c.self.inside.space) page ≡ None = rw (← c.self.view_is) at c.requires.absent in
-    (c.self.invariant.0, space_place c.self.inside.pages c.self.inside.space c.in-Ok.held c.args.space c.in-Ok.ensures.taken none c.taken.ensures.home absent c.self.invariant.1)
+    (c.self.invariant.0, space_place c.self.inside.pages c.self.inside.space c.in-Ok.held c.args.space c.in-Ok.ensures.taken none c.taken.ensures.home absent c.self.invariant.1, c.self.invariant.2)
 
 pub returns-in-Ok-clause-parts : goal.returns-in-Ok-clause-parts
 returns-in-Ok-clause-parts c = space_call BASE c.args.self.now _ c.args.space (rw (← c.self.view_is) c.self.invariant.1) c.requires.none c.requires.absent (returns-in-Ok-clause-admitted c)

@@ -24,4 +24,5 @@ invariant_of-self c =
       by_new_space c.grow.result c.self.inside.pages c.self.inside.space c.in-Some.space c.grow.new.self (grown c.in-Some.space c.args.image) there c.grow.ensures.grown c.grow.ensures.same
           (grow_place c.self.inside.pages c.in-Some.space c.args.image (subst (λ (o : Option HeldSpaceState). image_in (of c.self.inside.pages o) c.args.image.page ≡ None) (sym there) absent))
           c.self.invariant.1,
+      c.self.invariant.2,
     )

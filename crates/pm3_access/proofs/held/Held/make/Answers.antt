@@ -49,4 +49,4 @@ returns-clause-step c =
 pub invariant_of-self-2 : goal.invariant_of-self-2
 invariant_of-self-2 c =
     let made : IsMade BASE c.args.catalog.now (of c.self.inside.pages c.self.inside.space) c.args.ty c.args.tail c.args.name c.make.result (of c.self.inside.pages (Some c.make.new.self)) = search rules in
-    (c.self.invariant.0, make_place c.args.catalog.now BASE (of c.self.inside.pages c.self.inside.space) (of c.self.inside.pages (Some c.make.new.self)) c.args.ty c.args.tail c.args.name c.make.result made c.self.invariant.1)
+    (c.self.invariant.0, make_place c.args.catalog.now BASE (of c.self.inside.pages c.self.inside.space) (of c.self.inside.pages (Some c.make.new.self)) c.args.ty c.args.tail c.args.name c.make.result made c.self.invariant.1, c.self.invariant.2)

@@ -26,6 +26,7 @@ returns-clause-rejoin c = record {
   found = written_found c.pages.inside.left.images c.pages.inside.found.images c.take_written.new.written.images c.take_written.ensures.written (all_found c);
   apart = apart_so c.pages.inside.left.images c.pages.inside.found.images c.take_written.new.written.images c.take_written.new.pages.images c.take_written.ensures.written c.take_written.ensures.others;
   room = c.take_written.ensures.room;
+  written_room = c.take_written.ensures.written_room;
   kept = kept_so c.pages.inside.left.images c.pages.inside.found.images c.take_written.new.written.images c.take_written.new.pages.images c.take_written.ensures.both c.pages.invariant;
   volatile_home = c.part_space-volatile.ensures.home;
   space_kept = c.part_space-volatile.ensures.kept;

@@ -8,6 +8,7 @@ use Rattle.pm3_access.proofs.CallPlaces.{of, write_place}
 use Rattle.pm3_access.proofs.CallSteps.{write_call}
 use Rattle.pm3_access.proofs.SoundingHeld.{sound_value}
 use Rattle.pm3_access.proofs.Founds.{found_written}
+use Rattle.pm3_access.proofs.PartRoom.{room_written}
 use Rattle.pm3_access.proofs.Writing.{held_low}
 use Rattle.pm3_access.proofs.held.Held.write.Goals as goal
 
@@ -44,6 +45,7 @@ invariant_of-self c =
     × (of c.write.new.self c.self.inside.space ≡ of c.self.inside.pages c.self.inside.space)) = search rules in (
       found_written c.args.catalog.now BASE c.self.inside.pages c.write.new.self c.page_of-page.result c.args.at c.args.place c.args.value c.write.result c.write.ensures c.self.invariant.0,
       write_place c.args.catalog.now BASE (of c.self.inside.pages c.self.inside.space) (of c.write.new.self c.self.inside.space) c.args.at c.args.place c.args.value c.write.result written c.self.invariant.1,
+      room_written c.args.catalog.now BASE c.self.inside.pages c.write.new.self c.self.inside.written c.page_of-page.result c.args.at c.args.place c.args.value c.write.result c.write.ensures c.self.invariant.2,
     )
 
 pub invariant_of-self-2 : goal.invariant_of-self-2
@@ -52,4 +54,4 @@ invariant_of-self-2 c =
     (λ _. value_written c.args.catalog.now BASE (of c.self.inside.pages c.self.inside.space) c.args.at c.args.place c.args.value ≡ Some (of c.self.inside.pages (Some c.write-2.new.self)))
     (λ _. (value_written c.args.catalog.now BASE (of c.self.inside.pages c.self.inside.space) c.args.at c.args.place c.args.value ≡ None)
     × (of c.self.inside.pages (Some c.write-2.new.self) ≡ of c.self.inside.pages c.self.inside.space)) = search rules in
-    (c.self.invariant.0, write_place c.args.catalog.now BASE (of c.self.inside.pages c.self.inside.space) (of c.self.inside.pages (Some c.write-2.new.self)) c.args.at c.args.place c.args.value c.write-2.result written c.self.invariant.1)
+    (c.self.invariant.0, write_place c.args.catalog.now BASE (of c.self.inside.pages c.self.inside.space) (of c.self.inside.pages (Some c.write-2.new.self)) c.args.at c.args.place c.args.value c.write-2.result written c.self.invariant.1, c.self.invariant.2)
