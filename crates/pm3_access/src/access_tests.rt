@@ -1,4 +1,4 @@
-//! The same accesses to a holding and to a plain graph: every answer is the same.
+//! Accesses to the places of objects, with the answers that were worked out by hand.
 ghost use Rattle.std.specs.Prelude.{◌≡◌, ◌≤◌, ℕ, List, true, IfOk, OnOk};
 ghost use Rattle.pm3_core.specs.declared.naming.TheConstants.{BASE};
 ghost use Rattle.pm3_types.specs.Fields.{Fields};
@@ -6,7 +6,6 @@ ghost use Rattle.pm3_types.specs.PageForm.{is_memory_reference};
 ghost use Rattle.pm3_access.specs.Access.{AreSound, is_object_held};
 
 use super::*;
-use pm3_graph::{Op, Plain, PlainFault};
 use pm3_page::{Addr, BASE, Image, PageNo};
 use pm3_types::{Catalog, Tail, TypeMap, TypeNo};
 use std::alloc::Global;
@@ -124,122 +123,85 @@ fn write_byte(
     }
 }
 
-/// A holding, and the graph that it stands for. The object with the name n is at `objects[n - 1]`.
-#[derive(Drop)]
-struct Trial {
-    held: Held,
-    catalog: Catalog,
-    plain: Plain,
-    objects: Vec<Addr>,
-}
-
-/// An access to a place of the object with a name, and the operation on its record.
-#[derive(Drop)]
-struct Row {
-    object: u64,
-    place: Place,
-    access: Access,
-    op: Op,
-}
-
-fn word(name: u64, field: u32) -> Row {
-    row_of(
-        name,
-        Place::Field(field),
-        Access::Read,
-        Op::Word { name, field },
-    )
-}
-
-fn set_word(name: u64, field: u32, value: u64) -> Row {
-    let op = Op::SetWord { name, field, value };
-    row_of(name, Place::Field(field), Access::Number(value), op)
-}
-
-fn reference(name: u64, field: u32) -> Row {
-    let op = Op::Reference { name, field };
-    row_of(name, Place::Field(field), Access::Read, op)
-}
-
-fn set_reference(name: u64, field: u32, to: u64) -> Row {
-    let op = Op::SetReference { name, field, to };
-    row_of(name, Place::Field(field), Access::Name(to), op)
-}
-
-fn tail_ref(name: u64, at: u32) -> Row {
-    row_of(
-        name,
-        Place::Tail(at),
-        Access::Read,
-        Op::TailRef { name, at },
-    )
-}
-
-fn set_tail_ref(name: u64, at: u32, to: u64) -> Row {
-    let op = Op::SetTailRef { name, at, to };
-    row_of(name, Place::Tail(at), Access::Name(to), op)
-}
-
-fn byte(name: u64, at: u32) -> Row {
-    row_of(name, Place::Byte(at), Access::Read, Op::Byte { name, at })
-}
-
-fn set_byte(name: u64, at: u32, value: u8) -> Row {
-    let op = Op::SetByte {
-        name,
-        at,
-        value: u64::from(value),
-    };
-    row_of(name, Place::Byte(at), Access::Set(value), op)
-}
-
-fn row_of(object: u64, place: Place, access: Access, op: Op) -> Row {
-    Row {
-        object,
-        place,
-        access,
-        op,
-    }
-}
-
-/// What an access does at its place.
+/// An access to a place of the object at an address: a read, or a write of a value. Its answer is the value read, 0 for a write,
+/// or None where there is no such place.
 #[derive(Clone, Copy)]
-enum Access {
-    Read,
-    /// Writes a number.
-    Number(u64),
-    /// Writes the address of the object with this name, or nil for 0.
-    Name(u64),
-    Set(u8),
+struct Row {
+    at: Addr,
+    place: Place,
+    write: Option<u64>,
+    answer: Option<u64>,
 }
 
-/// The operation's answer, or None where there is no such place.
-fn apply(plain: &mut Plain, catalog: &Catalog, op: Op) -> Result<Option<u64>, Fail> {
-    if !op.is_allowed(catalog) {
-        return Err(Fail::from("no such operation"));
-    }
-    match plain.apply(catalog, op) {
-        Ok(answer) => Ok(Some(answer)),
-        Err(PlainFault::NoPlace) => Ok(None),
-        Err(_) => Err(Fail::from("no such record")),
+fn reads(at: Addr, place: Place, answer: Option<u64>) -> Row {
+    Row {
+        at,
+        place,
+        write: None,
+        answer,
     }
 }
 
-/// The address of the object with a name, or 0 for 0.
-fn address_of(objects: &[Addr], name: u64) -> Result<u64, Fail> {
-    if name == 0 {
-        return Ok(0);
+fn writes(at: Addr, place: Place, value: u64) -> Row {
+    Row {
+        at,
+        place,
+        write: Some(value),
+        answer: Some(0),
     }
-    let index = (name - 1) as usize;
-    Ok(*objects.get(index).ok_or("no such object")?)
 }
 
-/// The name of the object at a word, or the word itself where no object is there.
-fn name_of(objects: &[Addr], word: u64) -> u64 {
-    match objects.iter().position(|at| *at == word) {
-        Some(index) => index as u64 + 1,
-        None => word,
+fn refuses(at: Addr, place: Place, value: u64) -> Row {
+    Row {
+        at,
+        place,
+        write: Some(value),
+        answer: None,
     }
+}
+
+/// What a write of a value answers.
+fn write_value(
+    held: &mut Held,
+    catalog: &Catalog,
+    at: Addr,
+    place: Place,
+    value: u64,
+) -> Result<Option<u64>, Fail>
+    requires { AreSound catalog.now BASE 16384 held.old }
+    ensures { AreSound catalog.now BASE 16384 held.new }
+{
+    match place {
+        Place::Byte(k) => {
+            let byte = u8::try_from(value).ok().ok_or("no byte")?;
+            write_byte(held, catalog, at, k, byte)
+        }
+        Place::Field(_) | Place::Tail(_) => write_word(held, catalog, at, place, value),
+    }
+}
+
+/// Whether the access answers as the row says.
+fn agrees(held: &mut Held, catalog: &Catalog, row: Row) -> Result<bool, Fail>
+    requires { AreSound catalog.now BASE 16384 held.old }
+    ensures { AreSound catalog.now BASE 16384 held.new }
+{
+    let answer = match row.write {
+        None => read_word(held, catalog, row.at, row.place)?,
+        Some(value) => write_value(held, catalog, row.at, row.place, value)?,
+    };
+    Ok(answer == row.answer)
+}
+
+/// The first of the rows whose answer differs.
+fn first_difference(held: &mut Held, catalog: &Catalog, rows: &[Row]) -> Result<Option<usize>, Fail>
+    requires { AreSound catalog.now BASE 16384 held.old }
+{
+    for i in 0..rows.len() {
+        if !agrees(held, catalog, rows[i])? {
+            return Ok(Some(i));
+        }
+    }
+    Ok(None)
 }
 
 /// Makes an object of few words, or answers None where it doesn't fit.
@@ -262,172 +224,6 @@ fn make_object(
     Ok(held.make(catalog, ty, tail, name))
 }
 
-impl Trial {
-    fn begin(alloc: Global) -> Result<Trial, Fail>
-        ensures { IfOk result (λ trial. AreSound trial.catalog BASE 16384 trial.held) }
-    {
-        Ok(Trial {
-            held: one_page(alloc)?,
-            catalog: two_types(alloc)?,
-            plain: Plain::new(alloc),
-            objects: Vec::new(alloc),
-        })
-    }
-
-    /// Makes an object and a record under the next name.
-    fn with_object(self, ty: TypeNo, tail: u32) -> Result<Trial, Fail>
-        requires { AreSound self.catalog BASE 16384 self.held }
-        ensures { IfOk result (λ trial. AreSound trial.catalog BASE 16384 trial.held) }
-    {
-        let Trial {
-            mut held,
-            catalog,
-            mut plain,
-            mut objects,
-        } = self;
-        let name = objects.len() as u64 + 1;
-        let made = make_object(&mut held, &catalog, ty, tail, name)?;
-        objects.push(made.ok_or("no room")?)?;
-        apply(&mut plain, &catalog, Op::New { name, ty, tail })?;
-        Ok(Trial {
-            held,
-            catalog,
-            plain,
-            objects,
-        })
-    }
-
-    /// Whether an access to a place and an operation answer the same.
-    fn agree(self, row: &Row) -> Result<(bool, Trial), Fail>
-        requires { AreSound self.catalog BASE 16384 self.held }
-        ensures { IfOk result (λ agreed. AreSound agreed.1.catalog BASE 16384 agreed.1.held) }
-    {
-        let Trial {
-            mut held,
-            catalog,
-            mut plain,
-            objects,
-        } = self;
-        let at = address_of(&objects, row.object)?;
-        let answer = perform(&mut held, &catalog, &objects, at, row.place, row.access)?;
-        let same = answer == apply(&mut plain, &catalog, row.op)?;
-        let trial = Trial {
-            held,
-            catalog,
-            plain,
-            objects,
-        };
-        Ok((same, trial))
-    }
-}
-
-/// What an access answers, in names for addresses, or None where there is no such place.
-fn perform(
-    held: &mut Held,
-    catalog: &Catalog,
-    objects: &[Addr],
-    at: Addr,
-    place: Place,
-    access: Access,
-) -> Result<Option<u64>, Fail>
-    requires { AreSound catalog.now BASE 16384 held.old }
-    ensures { AreSound catalog.now BASE 16384 held.new }
-{
-    match (access, place) {
-        (Access::Read, _) => match read_word(held, catalog, at, place)? {
-            Some(word) => Ok(Some(name_of(objects, word))),
-            None => Ok(None),
-        },
-        (Access::Number(word), _) => write_word(held, catalog, at, place, word),
-        (Access::Name(name), _) => {
-            write_word(held, catalog, at, place, address_of(objects, name)?)
-        }
-        (Access::Set(byte), Place::Byte(k)) => write_byte(held, catalog, at, k, byte),
-        (Access::Set(_), _) => Err(Fail::from("no place of a byte")),
-    }
-}
-
-/// The first of the rows whose answers differ.
-fn first_difference(trial: Trial, rows: &[Row]) -> Result<Option<usize>, Fail>
-    requires { AreSound trial.catalog BASE 16384 trial.held }
-{
-    let mut trial = trial;
-    for i in 0..rows.len() {
-        let (same, next) = trial.agree(&rows[i])?;
-        if !same {
-            return Ok(Some(i));
-        }
-        trial = next;
-    }
-    Ok(None)
-}
-
-/// A part with a tail of two references, a chunk of eleven bytes, and a part without a tail.
-fn three_objects(alloc: Global) -> Result<Trial, Fail>
-    ensures { IfOk result (λ trial. AreSound trial.catalog BASE 16384 trial.held) }
-{
-    let trial = Trial::begin(alloc)?;
-    let trial = trial.with_object(PART, 2)?;
-    let trial = trial.with_object(CHUNK, 11)?;
-    trial.with_object(PART, 0)
-}
-
-#[test]
-fn fields_answer_as_those_of_records(rt: HostRuntime) -> Result<(), Fail> {
-    let rows = [
-        word(1, 0),
-        set_word(1, 0, BASE + 4096 * 3 + 72),
-        word(1, 0),
-        reference(1, 1),
-        set_reference(1, 1, 2),
-        reference(1, 1),
-        set_reference(2, 0, 3),
-        reference(2, 0),
-        set_reference(1, 1, 0),
-        reference(1, 1),
-        word(1, 2),
-        set_reference(3, 2, 1),
-        reference(2, 1),
-        word(1, 0),
-    ];
-    let different = first_difference(three_objects(rt.alloc())?, &rows)?;
-    assert_eq!(rt; different, None);
-    Ok(())
-}
-
-#[test]
-fn tails_answer_as_those_of_records(rt: HostRuntime) -> Result<(), Fail> {
-    let rows = [
-        set_tail_ref(1, 0, 3),
-        tail_ref(1, 1),
-        tail_ref(1, 0),
-        tail_ref(1, 2),
-        set_tail_ref(3, 0, 1),
-        tail_ref(2, 0),
-        set_byte(2, 0, 255),
-        set_byte(2, 7, 7),
-        set_byte(2, 10, 9),
-        byte(2, 0),
-        byte(2, 1),
-        byte(2, 7),
-        byte(2, 10),
-        byte(2, 11),
-        set_byte(2, 11, 1),
-        byte(1, 0),
-    ];
-    let different = first_difference(three_objects(rt.alloc())?, &rows)?;
-    assert_eq!(rt; different, None);
-    Ok(())
-}
-
-/// A byte of the tail of a chunk of 3072 bytes, which is alone on its page.
-fn byte_of_chunk(alloc: Global, k: u32) -> Result<Option<u64>, Fail> {
-    let catalog = two_types(alloc)?;
-    let mut held = one_page(alloc)?;
-    let at = make_chunk(&mut held, &catalog, 3072)?.ok_or("no room")?;
-    read_word(&held, &catalog, at, Place::Byte(k))
-}
-
 fn make_chunk(held: &mut Held, catalog: &Catalog, tail: u32) -> Result<Option<Addr>, Fail>
     requires { AreSound catalog.now BASE 16384 held.old }
     ensures { AreSound catalog.now BASE 16384 held.new }
@@ -441,9 +237,92 @@ fn make_chunk(held: &mut Held, catalog: &Catalog, tail: u32) -> Result<Option<Ad
     Ok(held.make(catalog, CHUNK, tail, 1))
 }
 
+/// Page 3.
+const PAGE_3: Addr = BASE + 4096 * 3;
+
+/// A part with a tail of two references.
+const FIRST: Addr = PAGE_3 + 16;
+
+/// A chunk of eleven bytes.
+const SECOND: Addr = PAGE_3 + 64;
+
+/// A part without a tail.
+const THIRD: Addr = PAGE_3 + 104;
+
+/// A chunk of 3072 bytes.
+const FOURTH: Addr = PAGE_3 + 136;
+
+/// Makes the four objects, one behind another.
+fn make_four(held: &mut Held, catalog: &Catalog) -> Result<bool, Fail>
+    requires { AreSound catalog.now BASE 16384 held.old }
+    ensures { AreSound catalog.now BASE 16384 held.new }
+{
+    let first = make_object(held, catalog, PART, 2, 1)?;
+    let second = make_object(held, catalog, CHUNK, 11, 2)?;
+    let third = make_object(held, catalog, PART, 0, 3)?;
+    let fourth = make_chunk(held, catalog, 3072)?;
+    Ok(
+        first == Some(FIRST)
+            && second == Some(SECOND)
+            && third == Some(THIRD)
+            && fourth == Some(FOURTH),
+    )
+}
+
+/// The first of the rows whose answer differs, where the four objects were made.
+fn difference(alloc: Global, rows: &[Row]) -> Result<Option<usize>, Fail> {
+    let catalog = two_types(alloc)?;
+    let mut held = one_page(alloc)?;
+    if !make_four(&mut held, &catalog)? {
+        return Err(Fail::from("an object lies elsewhere"));
+    }
+    first_difference(&mut held, &catalog, rows)
+}
+
 #[test]
-fn a_tail_ends_behind_its_last_byte(rt: HostRuntime) -> Result<(), Fail> {
-    assert_eq!(rt; byte_of_chunk(rt.alloc(), 3071)?, Some(0));
-    assert_eq!(rt; byte_of_chunk(rt.alloc(), 3072)?, None);
+fn fields_keep_what_was_written_to_them(rt: HostRuntime) -> Result<(), Fail> {
+    let rows = [
+        reads(FIRST, Place::Field(0), Some(0)),
+        writes(FIRST, Place::Field(0), PAGE_3 + 72),
+        reads(FIRST, Place::Field(0), Some(PAGE_3 + 72)),
+        reads(FIRST, Place::Field(1), Some(0)),
+        writes(FIRST, Place::Field(1), SECOND),
+        reads(FIRST, Place::Field(1), Some(SECOND)),
+        writes(SECOND, Place::Field(0), THIRD),
+        reads(SECOND, Place::Field(0), Some(THIRD)),
+        writes(FIRST, Place::Field(1), 0),
+        reads(FIRST, Place::Field(1), Some(0)),
+        reads(FIRST, Place::Field(2), None),
+        refuses(THIRD, Place::Field(2), FIRST),
+        reads(SECOND, Place::Field(1), None),
+        reads(FIRST, Place::Field(0), Some(PAGE_3 + 72)),
+    ];
+    assert_eq!(rt; difference(rt.alloc(), &rows)?, None);
+    Ok(())
+}
+
+#[test]
+fn tails_keep_what_was_written_to_them(rt: HostRuntime) -> Result<(), Fail> {
+    let rows = [
+        writes(FIRST, Place::Tail(0), THIRD),
+        reads(FIRST, Place::Tail(1), Some(0)),
+        reads(FIRST, Place::Tail(0), Some(THIRD)),
+        reads(FIRST, Place::Tail(2), None),
+        refuses(THIRD, Place::Tail(0), FIRST),
+        reads(SECOND, Place::Tail(0), None),
+        writes(SECOND, Place::Byte(0), 255),
+        writes(SECOND, Place::Byte(7), 7),
+        writes(SECOND, Place::Byte(10), 9),
+        reads(SECOND, Place::Byte(0), Some(255)),
+        reads(SECOND, Place::Byte(1), Some(0)),
+        reads(SECOND, Place::Byte(7), Some(7)),
+        reads(SECOND, Place::Byte(10), Some(9)),
+        reads(SECOND, Place::Byte(11), None),
+        refuses(SECOND, Place::Byte(11), 1),
+        reads(FIRST, Place::Byte(0), None),
+        reads(FOURTH, Place::Byte(3071), Some(0)),
+        reads(FOURTH, Place::Byte(3072), None),
+    ];
+    assert_eq!(rt; difference(rt.alloc(), &rows)?, None);
     Ok(())
 }
