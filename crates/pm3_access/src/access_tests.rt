@@ -20,7 +20,7 @@ const CHUNK: TypeNo = 1;
 /// The page that objects are placed on.
 const PAGE: PageNo = 3;
 
-fn two_types(alloc: Global) -> Result<Catalog, Fail> {
+pub(crate) fn two_types(alloc: Global) -> Result<Catalog, Fail> {
     let part = TypeMap::new(2, 2, Tail::Refs).ok_or("two fields")?;
     let chunk = TypeMap::new(1, 1, Tail::Bytes).ok_or("one field")?;
     let mut catalog = Catalog::new(alloc);
@@ -31,7 +31,7 @@ fn two_types(alloc: Global) -> Result<Catalog, Fail> {
 
 /// Holds a space with one blank page.
 #[tactic(auto, using(crate::proofs::Homes::nothing_there))]
-fn one_page(alloc: Global) -> Result<Held, Fail>
+pub(crate) fn one_page(alloc: Global) -> Result<Held, Fail>
     ensures { IfOk result (λ held. (catalog : List Fields) → AreSound catalog BASE 16384 held) }
 {
     let mut held = Held::new(alloc);

@@ -1,10 +1,15 @@
 //! A holding that is parted for a commit, and joined, undone or finished.
-ghost use Rattle.std.specs.Prelude.{IfOk};
+ghost use Rattle.std.specs.Prelude.{◌≡◌, IfOk, true};
+ghost use Rattle.pm3_core.specs.declared.naming.TheConstants.{BASE};
+ghost use Rattle.pm3_types.specs.PageForm.{IsSound};
+ghost use Rattle.pm3_access.specs.Access.{AreSound, is_object_held};
 ghost use Rattle.pm3_access.specs.Parting.{CanRejoin};
 
 use super::*;
+use crate::access_tests::{one_page, two_types};
 use crate::tests::{grow, holding, least_free, make, types};
 use pm3_page::{Addr, BASE, Image, PageNo, PageSet, Pages};
+use pm3_types::Catalog;
 use std::alloc::Global;
 use std::test::Fail;
 
@@ -136,4 +141,109 @@ fn a_commit_leaves_the_pages_as_they_are_now(rt: HostRuntime) -> Result<(), Fail
     let space = given(space)?;
     expect(space.has(3))?;
     has_one_free_page(space, rt.alloc(), 7)
+}
+
+/// The object of page 4.
+const OBJECT: Addr = BASE + 4096 * 4 + 16;
+
+/// Page 4 as it stands in a file: one object of two fields and no tail, under the name 1.
+fn page_4(alloc: Global, catalog: &Catalog) -> Result<Image, Fail>
+    ensures { IfOk result (λ image. IsSound catalog.now BASE 16384 image) }
+{
+    let mut bytes = [0u8; 4096];
+    bytes[0] = 4;
+    bytes[4] = 6;
+    bytes[24] = 1;
+    match Image::from_file(alloc, 4, 16384, catalog, &bytes) {
+        Ok(image) => Ok(image),
+        Err(_) => Err(Fail::from("the page is damaged")),
+    }
+}
+
+/// Holds a space with a page, and page 4 alone.
+fn space_and_page(alloc: Global, catalog: &Catalog) -> Result<Held, Fail>
+    ensures { IfOk result (λ held. AreSound catalog.now BASE 16384 held) }
+{
+    let mut held = one_page(alloc)?;
+    let image = page_4(alloc, catalog)?;
+    if held.image(image.page()).is_some() {
+        return Err(Fail::from("the page is held"));
+    }
+    if held.admit(image).is_err() {
+        return Err(Fail::from("no memory"));
+    }
+    Ok(held)
+}
+
+/// Whether the object of page 4 is held.
+fn has_object(held: &Held) -> bool
+    ensures { result ≡ true → is_object_held BASE held.now OBJECT ≡ true }
+{
+    match held.image(4) {
+        Some(image) => image.page() == 4 && image.is_object(OBJECT),
+        None => false,
+    }
+}
+
+/// Writes 7 to the first field of the object of page 4.
+fn write_seven(held: &mut Held, catalog: &Catalog) -> Result<(), Fail>
+    requires { AreSound catalog.now BASE 16384 held.old }
+{
+    if !has_object(held) {
+        return Err(Fail::from("no object is held"));
+    }
+    match held.write(catalog, OBJECT, Place::Field(0), 7) {
+        Ok(()) => Ok(()),
+        Err(NoPlace) => Err(Fail::from("no field")),
+    }
+}
+
+/// Holds page 4, which was written, beside a space.
+fn written_page(alloc: Global) -> Result<Held, Fail> {
+    let catalog = two_types(alloc)?;
+    let mut held = space_and_page(alloc, &catalog)?;
+    write_seven(&mut held, &catalog)?;
+    Ok(held)
+}
+
+/// The first field of the object of page 4.
+#[tactic(auto, unfolding(pm3_types::specs::Layout::word_in))]
+fn first_field(image: Option<&Image>) -> Result<u64, Fail> {
+    match image {
+        Some(image) if image.is_object(OBJECT) => Ok(image.field(OBJECT, 0)),
+        _ => Err(Fail::from("no object is there")),
+    }
+}
+
+#[test]
+fn a_page_that_was_written_is_parted_and_joined_again(rt: HostRuntime) -> Result<(), Fail> {
+    let parted = part(written_page(rt.alloc())?)?;
+    assert_eq!(rt; first_field(parted.written.get(4))?, 7);
+    let held = parted.rejoin();
+    assert_eq!(rt; first_field(held.image(4))?, 7);
+    Ok(())
+}
+
+#[test]
+fn a_page_that_was_written_is_as_it_was_found_after_undo(rt: HostRuntime) -> Result<(), Fail> {
+    let Undone {
+        pages,
+        written,
+        space: _,
+    } = part(written_page(rt.alloc())?)?.undo();
+    assert_eq!(rt; first_field(pages.get(4))?, 0);
+    assert!(rt; written.is_empty());
+    Ok(())
+}
+
+#[test]
+fn a_page_that_was_written_is_as_it_is_now_after_a_commit(rt: HostRuntime) -> Result<(), Fail> {
+    let Undone {
+        pages,
+        written,
+        space: _,
+    } = finish(part(written_page(rt.alloc())?)?, rt.alloc(), 7)?;
+    assert_eq!(rt; first_field(written.get(4))?, 7);
+    assert!(rt; pages.is_empty());
+    Ok(())
 }
