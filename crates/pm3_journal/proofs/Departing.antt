@@ -1,5 +1,5 @@
 -- What it says that no field of a form departs.
-use Rattle.std.proofs.Common.{◌≡◌, ◌+◌, ◌≤◌, ℕ, Bool, true, false, List, ◌∷◌, length, Option, Some, None, refl, nat_le}
+use Rattle.std.proofs.Common.{◌≡◌, ◌+◌, ◌≤◌, ℕ, Bool, true, false, List, ◌∷◌, length, Option, None, refl, nat_le}
 use Rattle.std.proofs.lemmas.Bool.{and_parts, leb-true}
 use Rattle.std.specs.Option.{option_or}
 use Rattle.pm3_types.specs.Bytes.{Field, piece, is_zero, are_zeros, has_field, unless, offset_of, first_departure}

@@ -5,6 +5,7 @@ mod Entering
 mod Faulting
 mod Gating
 mod Locality
+mod Mending
 mod Noting
 mod Picturing
 mod Recovering

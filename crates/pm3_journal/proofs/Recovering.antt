@@ -1,8 +1,7 @@
 -- The records of a journal that are read one after another.
-use Rattle.std.proofs.Common.{◌≡◌, ◌+◌, ◌*◌, ◌-◌, ◌≤◌, ℕ, List, [], ◌∷◌, ◌++◌, map, length, take, get_or, Bool, true, false, Option, Some, None, refl, sym, ◌∙◌, ap, subst, arith, if◌then◌else◌}
+use Rattle.std.proofs.Common.{◌≡◌, ◌+◌, ◌*◌, ◌-◌, ◌≤◌, ℕ, List, [], ◌∷◌, ◌++◌, map, length, get_or, Bool, true, false, Option, Some, None, refl, sym, ◌∙◌, ap, subst, arith, if◌then◌else◌}
 use Rattle.std.proofs.lemmas.List.{map_push, length-map}
 use Rattle.pm3_journal.specs.Format.{JournalRecord, record_size, page_in}
-use Rattle.pm3_journal.specs.FileHead.{head_departure, page_count_of}
 use Rattle.pm3_journal.specs.Summaries.{Summary, summary_of}
 use Rattle.pm3_journal.specs.Findings.{HasHead, HasParts, HasRecord, HasList, IsFrontAt}
 use Rattle.pm3_journal.specs.Offsets.{offset_in, last_offset}

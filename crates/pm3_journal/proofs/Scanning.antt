@@ -26,21 +26,6 @@ given_on bytes window start at n is from fits =
 pub window_on : {D R : Type 0} {g : Ghosts D R} {a b : D} (window : Stretch) → IsWindowOn window (g.content a) → OnlyReads g a b → IsWindowOn window (g.content b)
 window_on window on reads bytes told = on bytes (sym reads.same ∙ told)
 
--- so many bytes, or all where there are no more
-pub take_min : (most : ℕ) (bytes : List ℕ) → take (min (length bytes) most) bytes ≡ take most bytes
-take_min most bytes = ⊎_elim short long (cases_lt (length bytes) most)
-  where
-    short : length bytes < most → take (min (length bytes) most) bytes ≡ take most bytes
-    short less =
-        let one : length bytes ≤ min (length bytes) most = omega (arith, less) in
-        let two : length bytes ≤ most = omega (arith, less) in
-        take_all (min (length bytes) most) bytes one ∙ sym (take_all most bytes two)
-
-    long : most ≤ length bytes → take (min (length bytes) most) bytes ≡ take most bytes
-    long no_less =
-        let all : min (length bytes) most ≡ most = omega (arith, no_less) in
-        ap (λ (n : ℕ). take n bytes) all
-
 -- the first bytes of a window from offset 0 on are those of the device
 pub front_read : (bytes window : List ℕ) → window ≡ piece 0 (length window) bytes → length window ≡ min 65536 (length bytes - 0) → take 32 window ≡ take 32 bytes
 front_read bytes window is size = ap (take 32) is ∙ ⊎_elim short long (cases_lt (length bytes) 32)

@@ -1,5 +1,5 @@
 -- What was read of a journal's device.
-use Rattle.std.specs.Prelude.{◌≡◌, ℕ, ◌+◌, ◌-◌, ◌^◌, ◌<◌, ◌≤◌, true, List, [], map, take, length, slice_index_or, Option, Some, None, is_some}
+use Rattle.std.specs.Prelude.{◌≡◌, ℕ, ◌+◌, ◌-◌, ◌^◌, ◌<◌, ◌≤◌, true, List, [], map, take, length, slice_index_or, Option, None, is_some}
 use Rattle.pm3_types.specs.Bytes.{piece}
 use Rattle.pm3_journal.specs.FileHead.{head_departure, page_count_of}
 use Rattle.pm3_journal.specs.Format.{PagePart, JournalRecord, page_in}

@@ -24,12 +24,17 @@ parts_bytes (part ∷ parts) = part_bytes part ++ parts_bytes parts
 
 -- the bytes of a record behind its gate
 unfoldable pub body : JournalRecord → List ℕ
-body r = 0 ∷ 0 ∷ 0 ∷ 0 ∷ 0 ∷ 0 ∷ 0 ∷ (to_le_bytes w64 r.seq ++ (to_le_bytes w64 r.next_name ++ (to_le_bytes w32 r.tag ++ (to_le_bytes w32 (length r.parts)
+body r = 0 ∷ 0 ∷ 0 ∷ 0 ∷ 0 ∷ 0 ∷ 0 ∷ (to_le_bytes w64 r.seq ++ (to_le_bytes w64 r.next_name
+    ++ (to_le_bytes w32 r.tag ++ (to_le_bytes w32 (length r.parts)
     ++ (to_le_bytes w32 r.high_page ++ (to_le_bytes w32 r.pins ++ (to_le_bytes w32 r.moved ++ (0 ∷ 0 ∷ 0 ∷ 0 ∷ parts_bytes r.parts))))))))
 
 -- the gate of the next record, closed
 abbrev pub closed_gate : List ℕ
 closed_gate = 0 ∷ 0 ∷ 0 ∷ 0 ∷ 0 ∷ 0 ∷ 0 ∷ 0 ∷ []
+
+-- what an append writes behind a record's gate: the record, and the closed gate of the next
+abbrev pub appended_bytes : JournalRecord → List ℕ
+appended_bytes r = body r ++ closed_gate
 
 abbrev pub part_size : PagePart → ℕ
 part_size (Image page image) = 4104

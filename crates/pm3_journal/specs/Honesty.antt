@@ -1,5 +1,5 @@
 -- A recovery answers that its device failed exactly where it failed.
-use Rattle.std.specs.Prelude.{ℕ, Result, MatchResult}
+use Rattle.std.specs.Prelude.{Result, MatchResult}
 use Rattle.pm3_disk.specs.Devices.{HasFailed, HasNotFailed}
 use Rattle.pm3_disk.specs.declared.outside.Disk.{Ghosts}
 use Rattle.pm3_journal.specs.declared.faults.RecoverFault.{RecoverFault}

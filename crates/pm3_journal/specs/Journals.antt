@@ -49,8 +49,10 @@ pub record IsPresent (pages : ℕ) (is_torn : Bool) (list failed : List JournalR
 pub record Keeps {D R : Type 0} (g : Ghosts D R) (j : JournalState D) : Type 0 where
   pub list : List JournalRecord
   pub shown : j.summaries ≡ map summary_of list
-  pub kept : IfTold (g.content j.disk) (λ _. HoldsSince j.since (g.moment j.disk) (g.may_leave j.disk) (HasFirstOf j.pages (list ++ failed_list j.failed)))
-  pub present : IfTold (g.content j.disk) (λ _. (left : List ℕ) → g.may_leave j.disk (g.moment j.disk) left → IsPresent j.pages j.is_torn list (failed_list j.failed) left)
+  pub kept : IfTold (g.content j.disk) (λ _. HoldsSince j.since (g.moment j.disk) (g.may_leave j.disk)
+      (HasFirstOf j.pages (list ++ failed_list j.failed)))
+  pub present : IfTold (g.content j.disk) (λ _. (left : List ℕ) → g.may_leave j.disk (g.moment j.disk) left
+      → IsPresent j.pages j.is_torn list (failed_list j.failed) left)
   pub untorn : j.stopped ≡ None → j.is_torn ≡ false
   pub none_failed : j.stopped ≡ None → j.failed ≡ None
   pub rest : j.stopped ≡ None → IsAtRest g j list
@@ -58,4 +60,5 @@ pub record Keeps {D R : Type 0} (g : Ghosts D R) (j : JournalState D) : Type 0 w
 -- the buffers have space for a record of that many pages, where a number is given
 abbrev pub HasSpace : Option ℕ → ℕ → ℕ → ℕ → ℕ → Type 0
 HasSpace None bytes numbers summaries slots = Unit {0}
-HasSpace (Some most) bytes numbers summaries slots = (55 + 4104 * most ≤ bytes) × (most ≤ numbers) × (summaries < slots) × (summaries + 1 < 2 ^ 32)
+HasSpace (Some most) bytes numbers summaries slots = (55 + 4104 * most ≤ bytes) × (most ≤ numbers)
+    × (summaries < slots) × (summaries + 1 < 2 ^ 32)

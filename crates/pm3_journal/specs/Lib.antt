@@ -1,4 +1,5 @@
 pub mod Codes
+pub mod Damage
 pub mod Entered
 pub mod FileHead
 pub mod Findings

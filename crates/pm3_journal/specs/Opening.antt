@@ -33,17 +33,21 @@ page_bytes file list page = unwrap_or (last_image page list None) (piece (4096 *
 
 -- the next name and the high page of a store: those of the last record, or those of page 0 where there is none
 pub record AreAt (file : List ℕ) (list : List JournalRecord) (pages next_name high_page : ℕ) : Type 0 where
-  pub head : list ≡ [] → (marks : Marks) × AreMarks marks × (piece 0 4096 file ≡ head_page marks) × (marks.pages ≡ pages) × (marks.next_name ≡ next_name) × (marks.high_page ≡ high_page)
-  pub last : (front : List JournalRecord) (r : JournalRecord) → list ≡ front ++ r ∷ [] → (r.next_name ≡ next_name) × (r.high_page ≡ high_page)
+  pub head : list ≡ [] → (marks : Marks) × AreMarks marks × (piece 0 4096 file ≡ head_page marks)
+      × (marks.pages ≡ pages) × (marks.next_name ≡ next_name) × (marks.high_page ≡ high_page)
+  pub last : (front : List JournalRecord) (r : JournalRecord) → list ≡ front ++ r ∷ []
+      → (r.next_name ≡ next_name) × (r.high_page ≡ high_page)
 
 -- the images are those of the pages from 2 on whose bytes have the form
 abbrev pub AreImagesOf : List Fields → ℕ → ℕ → List ℕ → List JournalRecord → Images → Type 0
 AreImagesOf catalog base pages file list images = (page : ℕ) (sheet : Sheet)
-    → get images page ≡ Some sheet ↔ ((2 ≤ page) × (page < pages) × (page_read catalog base pages page (page_bytes file list page) ≡ Ok sheet))
+    → get images page ≡ Some sheet ↔ ((2 ≤ page) × (page < pages)
+    × (page_read catalog base pages page (page_bytes file list page) ≡ Ok sheet))
 
 -- The images are whole as far as they are reached: page 2 and all pages of the records are among them, and the book names
 -- what is reached from the roots, below the next name and the high page.
-pub record AreReached (catalog : List Fields) (base : ℕ) (list : List JournalRecord) (images : Images) (book : Book) (next_name high_page : ℕ) : Type 0 where
+pub record AreReached (catalog : List Fields) (base : ℕ) (list : List JournalRecord) (images : Images)
+    (book : Book) (next_name high_page : ℕ) : Type 0 where
   pub roots : is_some (get images 2) ≡ true
   pub recorded : (page : ℕ) → is_some (last_image page list None) ≡ true → is_some (get images page) ≡ true
   pub reached : (a : ℕ) → IsReachedAt catalog base images a → is_some (get book a) ≡ true

@@ -1,5 +1,5 @@
 -- What the bytes at an offset say of the next record.
-use Rattle.std.specs.Prelude.{ℕ, suc, zero, ◌+◌, ◌-◌, ◌^◌, Bool, ◌==◌, if◌then◌else◌, List, [], ◌∷◌, length, Option, Some, None}
+use Rattle.std.specs.Prelude.{ℕ, suc, zero, ◌+◌, ◌-◌, ◌^◌, ◌==◌, if◌then◌else◌, List, [], ◌∷◌, length, Option, Some, None}
 use Rattle.std.specs.Int.{w32}
 use Rattle.pm3_types.specs.Bytes.{piece, number_at}
 use Rattle.pm3_journal.specs.Format.{PagePart, Image, JournalRecord}
@@ -47,7 +47,8 @@ part_at at bytes = Image (number_at w32 0 (piece at 8 bytes)) (piece (at + 8) 40
 abbrev pub parts_at : ℕ → ℕ → ℕ → ℕ → List ℕ → Parts
 parts_at zero pages last at bytes = Good []
 parts_at (suc n) pages last at bytes =
-    with_part at (part_departure pages last (piece at 8 bytes)) (part_at at bytes) (parts_at n pages (number_at w32 0 (piece at 8 bytes)) (at + 4104) bytes)
+    with_part at (part_departure pages last (piece at 8 bytes)) (part_at at bytes) (parts_at n pages
+    (number_at w32 0 (piece at 8 bytes)) (at + 4104) bytes)
 
 abbrev pub with_front : ℕ → List ℕ → Option ℕ → Parts → Reading
 with_front at front (Some field) parts = Broken (at + field)

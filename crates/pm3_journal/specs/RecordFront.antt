@@ -58,7 +58,8 @@ is_due (Some due) seq = due == seq
 -- A record belongs to the list where its gate is 1, its front is there, its number is due and it lies whole in the bytes,
 -- of which so many are left.
 unfoldable pub stands : Option ℕ → ℕ → List ℕ → Bool
-stands due left front = (slice_index front 0 == 1) && (nat_le 48 left && (is_due due (seq_of front) && nat_le (48 + 4104 * number_of front) left))
+stands due left front = (slice_index front 0 == 1) && (nat_le 48 left && (is_due due (seq_of front)
+    && nat_le (48 + 4104 * number_of front) left))
 
 -- the summary with these numbers and pages
 abbrev pub summary_with : List ℕ → List ℕ → Summary

@@ -1,5 +1,5 @@
 -- What a journal that was recovered has of its device's bytes.
-use Rattle.std.specs.Prelude.{◌≡◌, ℕ, List, map, take, slice_index_or, Option, None}
+use Rattle.std.specs.Prelude.{◌≡◌, ℕ, List, map, take, slice_index_or, None}
 use Rattle.pm3_journal.specs.FileHead.{page_count_of}
 use Rattle.pm3_journal.specs.Format.{JournalRecord}
 use Rattle.pm3_journal.specs.Journals.{IsJournal}

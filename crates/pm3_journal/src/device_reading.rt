@@ -41,7 +41,8 @@ pub(crate) struct Findings {
 fn read_head<D: Disk>(window: &mut Window, disk: &mut D) -> Result<u32, RecoverFault>
     ensures head { IfOk result (λ pages. IfTold (D.content disk.old) (HasHead pages)) }
     ensures range { IfOk result (λ pages. (16 ≤ pages) × (pages ≤ 16384)) }
-    ensures damaged { (offset : ℕ) → IsErrOf result (RecoverFault.Damaged offset) → IfTold (D.content disk.old) (λ bytes. head_departure (take 32 bytes) ≡ Some offset) }
+    ensures damaged { (offset : ℕ) → IsErrOf result (RecoverFault.Damaged offset)
+        → IfTold (D.content disk.old) (λ bytes. head_departure (take 32 bytes) ≡ Some offset) }
     ensures window { OnOk result (IsWindowOn window.new (D.content disk.new)) }
     ensures reads { OnlyReads D.Disk disk.old disk.new }
     ensures cause { IsHonestReading D.Disk disk.old disk.new result }
@@ -104,7 +105,8 @@ fn read_journal<D: Disk>(alloc: Global, disk: &mut D, len: u64) -> Result<Findin
     requires len { IfTold (D.content disk.old) (λ bytes. len ≡ length bytes) }
     ensures found { IfOk result (λ found. IfTold (D.content disk.old) (IsFoundIn found)) }
     ensures sound { IfOk result IsSoundFound }
-    ensures damaged { (offset : ℕ) → IsErrOf result (RecoverFault.Damaged offset) → IfTold (D.content disk.old) (λ bytes. records bytes ≡ Damaged offset) }
+    ensures damaged { (offset : ℕ) → IsErrOf result (RecoverFault.Damaged offset)
+        → IfTold (D.content disk.old) (λ bytes. records bytes ≡ Damaged offset) }
     ensures reads { OnlyReads D.Disk disk.old disk.new }
     ensures cause { IsHonestReading D.Disk disk.old disk.new result }
 {
@@ -145,7 +147,8 @@ fn read_journal<D: Disk>(alloc: Global, disk: &mut D, len: u64) -> Result<Findin
 pub(crate) fn find<D: Disk>(alloc: Global, disk: &mut D) -> Result<Findings, RecoverFault>
     ensures found { IfOk result (λ found. IfTold (D.content disk.old) (IsFoundIn found)) }
     ensures sound { IfOk result IsSoundFound }
-    ensures damaged { (offset : ℕ) → IsErrOf result (RecoverFault.Damaged offset) → IfTold (D.content disk.old) (λ bytes. records bytes ≡ Damaged offset) }
+    ensures damaged { (offset : ℕ) → IsErrOf result (RecoverFault.Damaged offset)
+        → IfTold (D.content disk.old) (λ bytes. records bytes ≡ Damaged offset) }
     ensures settled { OnOk result (IsSynced D.Disk disk.new) }
     ensures reads { OnlyReads D.Disk disk.old disk.new }
     ensures cause { IsHonestReading D.Disk disk.old disk.new result }

@@ -60,7 +60,8 @@ impl Entries {
     /// The next name and the high page of the last entry, None exactly where there is no entry.
     pub fn last(&self) -> Option<(u64, u32)>
         ensures none { IsNone result ↔ (self.now.summaries ≡ []) }
-        ensures last { IfSome result (λ marks. (before : List Summary) × (last : Summary) × (self.now.summaries ≡ before ++ last ∷ []) × (marks.0 ≡ last.next_name) × (marks.1 ≡ last.high_page)) }
+        ensures last { IfSome result (λ marks. (before : List Summary) × (last : Summary)
+            × (self.now.summaries ≡ before ++ last ∷ []) × (marks.0 ≡ last.next_name) × (marks.1 ≡ last.high_page)) }
         ensures bounds { IfSome result (λ marks. (1 ≤ marks.0) × (marks.0 ≤ 2 ^ 62) × (3 ≤ marks.1) × (marks.1 ≤ self.now.pages)) }
     {
         match self.summaries.last() {
@@ -122,7 +123,8 @@ impl Entries {
 /// Notes these pages in a table.
 fn note(seen: &mut Vec<bool>, pages: &[u32])
     requires { All (λ page. page < length seen.old.items) pages.now }
-    ensures noted { (q : ℕ) → slice_index_or seen.new.items q false ≡ (list_any (λ page. page == q) pages.now || slice_index_or seen.old.items q false) }
+    ensures noted { (q : ℕ) → slice_index_or seen.new.items q false
+        ≡ (list_any (λ page. page == q) pages.now || slice_index_or seen.old.items q false) }
     ensures size { length seen.new.items ≡ length seen.old.items }
 {
     for page in pages {

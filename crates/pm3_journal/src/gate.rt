@@ -12,7 +12,8 @@ pub(crate) fn close_gate<D: Disk>(disk: &mut D, at: u64, is_closed: bool) -> Res
     requires settled { IsSynced D.Disk disk.old }
     requires within { IfTold (D.content disk.old) (λ old. at ≤ length old) }
     requires closed { is_closed ≡ true → IfTold (D.content disk.old) (IsClosed at) }
-    ensures written { OnOk result (D.content disk.new ≡ (if is_closed then D.content disk.old else option_map (overwrite at (0 ∷ [])) (D.content disk.old))) }
+    ensures written { OnOk result (D.content disk.new
+        ≡ (if is_closed then D.content disk.old else option_map (overwrite at (0 ∷ [])) (D.content disk.old))) }
     ensures done { OnOk result (Takes D.Disk disk.old disk.new (Closes at)) }
     ensures settled { OnOk result (IsSynced D.Disk disk.new) }
     ensures torn { OnErr result (Takes D.Disk disk.old disk.new (ClosingLeaves at is_closed)) }

@@ -21,10 +21,12 @@ pub(crate) fn read_images<D: Disk>(
     offsets: &[Option<u64>],
 ) -> Result<FilePages, RecoverFault>
     requires window { IsWindowOn window.now (D.content disk.old) }
-    requires within { IfTold (D.content disk.old) (λ bytes. (page place : ℕ) → slice_index_or offsets.now page None ≡ Some place → place + 4096 ≤ length bytes) }
+    requires within { IfTold (D.content disk.old) (λ bytes. (page place : ℕ)
+        → slice_index_or offsets.now page None ≡ Some place → place + 4096 ≤ length bytes) }
     requires few { length offsets.now ≤ 16384 }
     ensures images { IfOk result (λ images. IfTold (D.content disk.old) (λ bytes. images.items ≡ images_at 0 offsets.now bytes)) }
-    ensures has { IfOk result (λ images. (page : ℕ) → is_some (image_of page images.items) ≡ has_offset (slice_index_or offsets.now page None)) }
+    ensures has { IfOk result (λ images. (page : ℕ)
+        → is_some (image_of page images.items) ≡ has_offset (slice_index_or offsets.now page None)) }
     ensures whole { (offset : ℕ) → ¬ (IsErrOf result (RecoverFault.Damaged offset)) }
     ensures reads { OnlyReads D.Disk disk.old disk.new }
     ensures cause { IsHonestReading D.Disk disk.old disk.new result }
@@ -54,7 +56,8 @@ fn add_image<D: Disk>(
     requires below { AreBelow page images.old.items }
     requires room { has_offset offset ≡ true → 0 < images.old.room }
     ensures added { OnOk result (IfTold (D.content disk.old) (λ bytes. images.new.items ≡ images.old.items ++ one_at page offset bytes)) }
-    ensures has { OnOk result ((q : ℕ) → is_some (image_of q images.new.items) ≡ (is_some (image_of q images.old.items) || (has_offset offset && page == q))) }
+    ensures has { OnOk result ((q : ℕ) → is_some (image_of q images.new.items)
+        ≡ (is_some (image_of q images.old.items) || (has_offset offset && page == q))) }
     ensures below { OnOk result (AreBelow (page + 1) images.new.items) }
     ensures room { OnOk result (images.old.room ≤ images.new.room + number_of_offsets (offset ∷ [])) }
     ensures reads { OnlyReads D.Disk disk.old disk.new }

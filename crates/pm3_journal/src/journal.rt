@@ -19,7 +19,7 @@ pub(crate) mod recover;
 /// | state | comes by | a crash then leaves | the next append |
 /// |---|---|---|---|
 /// | at rest, its gate closed | `append`, `close_first_gate`, `recover` | its records | writes behind the gate |
-/// | at rest, its gate missing or open | `recover` of a file that ends there, or where a crash left an open gate | its records | closes the gate first |
+/// | at rest, its gate missing or open | `recover` of a file that ends there or has an open gate there | its records | closes the gate first |
 /// | stopped | an `append` that answers `JournalFault` | its records, with that append's behind them or not | is refused: `Stopped` |
 /// | torn, and stopped | a `close_first_gate` that answers `JournalFault` | what it left before, or no record | is refused: `Stopped` |
 /// | emptied | `close_first_gate` | no record | as at rest, or `Stopped` where it was |

@@ -51,5 +51,5 @@ pub use faults::{AppendFault, JournalFault, PageFault, RecoverFault};
 pub use file_pages::FilePages;
 pub use journal::Journal;
 pub use journal::recover::recover;
-pub use laws::{new_journal_is_empty, opens_to_one_graph};
+pub use laws::{new_journal_is_empty, nothing_mends, opens_to_one_graph};
 pub use opened::Opened;

@@ -43,14 +43,17 @@ pub(crate) fn read_list<D: Disk>(
     requires head { IfTold (D.content disk.old) (HasHead (length offsets.old)) }
     requires blank { (page : ℕ) → slice_index_or offsets.old page None ≡ None }
     requires table { IsTable offsets.old }
-    ensures good { IfOk result (λ list. IfTold (D.content disk.old) (HasList (length offsets.old) list.end list.due list.entries.summaries offsets.new)) }
-    ensures ends { IfOk result (λ list. IfTold (D.content disk.old) (λ bytes. record_at (record { pages = length offsets.old; due = list.due }) list.end bytes ≡ Ends)) }
+    ensures good { IfOk result (λ list. IfTold (D.content disk.old) (HasList
+        (length offsets.old) list.end list.due list.entries.summaries offsets.new)) }
+    ensures ends { IfOk result (λ list. IfTold (D.content disk.old)
+        (λ bytes. record_at (record { pages = length offsets.old; due = list.due }) list.end bytes ≡ Ends)) }
     ensures within { IfOk result (λ list. list.end ≤ len) }
     ensures pages { IfOk result (λ list. list.entries.pages ≡ length offsets.old) }
     ensures first { IfOk result (λ list. list.entries.summaries ≡ [] → list.due ≡ None) }
     ensures positive { IfOk result (λ list. IfSome list.due (λ due. 1 ≤ due)) }
     ensures held { IfOk result (λ list. AreHeld list.entries.summaries offsets.new) }
-    ensures damaged { (offset : ℕ) → IsErrOf result (RecoverFault.Damaged offset) → IfTold (D.content disk.old) (λ bytes. records bytes ≡ Damaged offset) }
+    ensures damaged { (offset : ℕ) → IsErrOf result (RecoverFault.Damaged offset)
+        → IfTold (D.content disk.old) (λ bytes. records bytes ≡ Damaged offset) }
     ensures window { OnOk result (IsWindowOn window.new (D.content disk.new)) }
     ensures size { length offsets.new ≡ length offsets.old }
     ensures table { IsTable offsets.new }

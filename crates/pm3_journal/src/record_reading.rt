@@ -33,7 +33,8 @@ pub(crate) fn next_front<D: Disk>(
     requires within { at ≤ len }
     ensures here { IfOk result (λ found. IfSome found (λ front. IfTold (D.content disk.old) (IsFrontAt due at front))) }
     ensures fits { IfOk result (λ found. IfSome found (λ front. at + 48 + 4104 * number_of front ≤ len)) }
-    ensures none { IfOk result (λ found. IfNone found (IfTold (D.content disk.old) (λ bytes. stands due (length bytes - at) (piece at 48 bytes) ≡ false))) }
+    ensures none { IfOk result (λ found. IfNone found (IfTold (D.content disk.old)
+        (λ bytes. stands due (length bytes - at) (piece at 48 bytes) ≡ false))) }
     ensures window { OnOk result (IsWindowOn window.new (D.content disk.new)) }
     ensures reads { OnlyReads D.Disk disk.old disk.new }
     ensures cause { IsHonest D.Disk disk.old disk.new result }
@@ -64,12 +65,14 @@ fn read_parts<D: Disk>(
     requires table { IsTable offsets.old }
     requires fewer { count < length offsets.old }
     requires small { at + 4104 * count < 2 ^ 64 }
-    ensures good { IfOk result (λ numbers. IfTold (D.content disk.old) (λ bytes. HasParts count (length offsets.old) at bytes numbers.items offsets.old offsets.new)) }
+    ensures good { IfOk result (λ numbers. IfTold (D.content disk.old)
+        (λ bytes. HasParts count (length offsets.old) at bytes numbers.items offsets.old offsets.new)) }
     ensures number { IfOk result (λ numbers. length numbers.items ≡ count) }
     ensures pages { IfOk result (λ numbers. All (λ page. page < length offsets.old) numbers.items) }
     ensures above { IfOk result (λ numbers. All (λ page. 2 ≤ page) numbers.items) }
     ensures noted { IfOk result (λ numbers. AreNoted numbers.items offsets.old offsets.new) }
-    ensures damaged { (offset : ℕ) → IsErrOf result (RecoverFault.Damaged offset) → IfTold (D.content disk.old) (λ bytes. parts_at count (length offsets.old) 1 at bytes ≡ Bad offset) }
+    ensures damaged { (offset : ℕ) → IsErrOf result (RecoverFault.Damaged offset)
+        → IfTold (D.content disk.old) (λ bytes. parts_at count (length offsets.old) 1 at bytes ≡ Bad offset) }
     ensures window { OnOk result (IsWindowOn window.new (D.content disk.new)) }
     ensures size { length offsets.new ≡ length offsets.old }
     ensures table { IsTable offsets.new }
@@ -114,13 +117,16 @@ pub(crate) fn read_record<D: Disk>(
     requires here { IfTold (D.content disk.old) (IsFrontAt due at front.now) }
     requires fits { at + 48 + 4104 * number_of front.now < 2 ^ 64 }
     requires table { IsTable offsets.old }
-    ensures good { IfOk result (λ summary. IfTold (D.content disk.old) (λ bytes. HasRecord (record { pages = length offsets.old; due = due }) at bytes summary offsets.old offsets.new)) }
+    ensures good { IfOk result (λ summary. IfTold (D.content disk.old)
+        (λ bytes. HasRecord (record { pages = length offsets.old; due = due }) at bytes summary offsets.old offsets.new)) }
     ensures number { IfOk result (λ summary. length summary.pages ≡ number_of front.now) }
     ensures pages { IfOk result (λ summary. All (λ page. page < length offsets.old) summary.pages) }
     ensures above { IfOk result (λ summary. All (λ page. 2 ≤ page) summary.pages) }
     ensures noted { IfOk result (λ summary. AreNoted summary.pages offsets.old offsets.new) }
     ensures bounded { IfOk result (λ summary. IsBounded (length offsets.old) summary) }
-    ensures damaged { (offset : ℕ) → IsErrOf result (RecoverFault.Damaged offset) → IfTold (D.content disk.old) (λ bytes. record_at (record { pages = length offsets.old; due = due }) at bytes ≡ Broken offset) }
+    ensures damaged { (offset : ℕ) → IsErrOf result (RecoverFault.Damaged offset)
+        → IfTold (D.content disk.old)
+        (λ bytes. record_at (record { pages = length offsets.old; due = due }) at bytes ≡ Broken offset) }
     ensures window { OnOk result (IsWindowOn window.new (D.content disk.new)) }
     ensures size { length offsets.new ≡ length offsets.old }
     ensures table { IsTable offsets.new }

@@ -76,7 +76,9 @@ impl Window {
 
     /// Copies a piece, if the window has all of it.
     fn give(&self, at: u64, out: &mut [u8]) -> bool
-        ensures given { result ≡ true → (self.now.start ≤ at) × (at - self.now.start + length out.old ≤ length self.now.bytes) × (out.new ≡ take (length out.old) (drop (at - self.now.start) self.now.bytes)) }
+        ensures given { result ≡ true → (self.now.start ≤ at)
+            × (at - self.now.start + length out.old ≤ length self.now.bytes)
+            × (out.new ≡ take (length out.old) (drop (at - self.now.start) self.now.bytes)) }
         ensures missing { result ≡ false → self.now.start ≤ at → length self.now.bytes < at - self.now.start + length out.old }
     {
         let bytes = self.bytes();

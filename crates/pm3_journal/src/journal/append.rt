@@ -1,8 +1,8 @@
 //! A record more.
-ghost use Rattle.std.specs.Prelude.{◌≡◌, ◌+◌, ◌^◌, ◌<◌, ◌≤◌, ◌↔◌, ◌⊎◌, ◌++◌, ℕ, length, option_map, Some, None, IfOk, OnOk, OnErr, IsErrOf};
+ghost use Rattle.std.specs.Prelude.{◌≡◌, ◌+◌, ◌^◌, ◌<◌, ◌≤◌, ◌↔◌, ◌⊎◌, ℕ, length, option_map, Some, None, IfOk, OnOk, OnErr, IsErrOf};
 ghost use Rattle.pm3_disk.specs.Devices.{HasFailed, HasNotFailed, IsSynced, LeavesFromTold, Takes};
 ghost use Rattle.pm3_journal.specs.Entered.{record_of};
-ghost use Rattle.pm3_journal.specs.Format.{body, closed_gate, IsFit, record_size};
+ghost use Rattle.pm3_journal.specs.Format.{appended_bytes, IsFit, record_size};
 ghost use Rattle.pm3_journal.specs.Gates.{AppendLeaves, entered};
 ghost use Rattle.pm3_journal.specs.JournalState.{grown, halted, HasRoom};
 ghost use Rattle.pm3_journal.specs.Steps.{HasMaybeOneMore, HasOneMore};
@@ -49,19 +49,24 @@ impl<D: Disk> Journal<D> {
     pub fn append(&mut self, entry: &Entry) -> Result<Receipt, AppendFault>
         requires room { HasRoom self.old.room (length entry.now.pages.items) }
         requires fit { IsFit self.old.pages (record_of self.old.next entry.now) }
-        ensures receipt { IfOk result (λ receipt. receipt ≡ record { seq = self.old.next; pinned = entry.now.pins; moved = entry.now.moved }) }
+        ensures receipt { IfOk result (λ receipt. receipt
+            ≡ record { seq = self.old.next; pinned = entry.now.pins; moved = entry.now.moved }) }
         ensures grown { OnOk result (self.new ≡ grown (record_of self.old.next entry.now) self.new.disk self.old) }
-        ensures bytes { OnOk result (D.content self.new.disk ≡ option_map (entered self.old.end (body (record_of self.old.next entry.now) ++ closed_gate)) (D.content self.old.disk)) }
+        ensures bytes { OnOk result (D.content self.new.disk
+            ≡ option_map (entered self.old.end (appended_bytes (record_of self.old.next entry.now))) (D.content self.old.disk)) }
         ensures added { OnOk result (Takes D.Disk self.old.disk self.new.disk (HasOneMore (record_of self.old.next entry.now))) }
         ensures settled { OnOk result (IsSynced D.Disk self.new.disk) }
         ensures crash { LeavesFromTold D.Disk self.old.disk self.new.disk (HasMaybeOneMore (record_of self.old.next entry.now)) }
         ensures stopped { (seq : ℕ) → IsErrOf result (AppendFault.Stopped seq) ↔ (self.old.stopped ≡ Some seq) }
         ensures full { (limit : ℕ) → IsErrOf result (AppendFault.Full limit)
-            ↔ ((self.old.stopped ≡ None) × (limit ≡ 2 ^ 30) × (2 ^ 30 < self.old.end + record_size (record_of self.old.next entry.now) + 8)) }
+            ↔ ((self.old.stopped ≡ None) × (limit ≡ 2 ^ 30)
+            × (2 ^ 30 < self.old.end + record_size (record_of self.old.next entry.now) + 8)) }
         ensures refused { OnErr result (IsErrOf result AppendFault.JournalFault ⊎ (self.new ≡ self.old)) }
-        ensures halted { IsErrOf result AppendFault.JournalFault → self.new ≡ halted (record_of self.old.next entry.now) self.new.disk self.old }
+        ensures halted { IsErrOf result AppendFault.JournalFault
+            → self.new ≡ halted (record_of self.old.next entry.now) self.new.disk self.old }
         ensures torn { IsErrOf result AppendFault.JournalFault
-            → Takes D.Disk self.old.disk self.new.disk (AppendLeaves self.old.end self.old.is_closed (body (record_of self.old.next entry.now) ++ closed_gate)) }
+            → Takes D.Disk self.old.disk self.new.disk
+            (AppendLeaves self.old.end self.old.is_closed (appended_bytes (record_of self.old.next entry.now))) }
         ensures part { IsErrOf result AppendFault.JournalFault
             → Takes D.Disk self.old.disk self.new.disk (HasMaybeOneMore (record_of self.old.next entry.now)) }
         ensures fault { IsErrOf result AppendFault.JournalFault → HasFailed D.Disk self.old.disk self.new.disk }

@@ -23,12 +23,14 @@ use std::snapshot::Snapshot;
 pub fn recover<D: Disk>(alloc: Global, disk: D) -> Result<Journal<D>, (RecoverFault, D)>
     ensures list { IfOk result (λ journal. IfTold (D.content disk) (λ bytes. (rs : List JournalRecord) × HasRecords journal rs bytes)) }
     ensures images { IfOk result (λ journal. IfTold (D.content disk) (λ bytes. journal.images ≡ images_at 0 journal.offsets bytes)) }
-    ensures damaged { (offset : ℕ) (back : D) → result ≡ Err (RecoverFault.Damaged offset, back) → IfTold (D.content disk) (λ bytes. records bytes ≡ Damaged offset) }
+    ensures damaged { (offset : ℕ) (back : D) → result ≡ Err (RecoverFault.Damaged offset, back)
+        → IfTold (D.content disk) (λ bytes. records bytes ≡ Damaged offset) }
     ensures idle { IfOk result (λ journal. (journal.stopped ≡ None) × (journal.failed ≡ None)) }
     ensures first { IfOk result (λ journal. journal.summaries ≡ [] → journal.next ≡ 1) }
     ensures range { IfOk result (λ journal. (16 ≤ journal.pages) × (journal.pages ≤ 16384) × (1 ≤ journal.next) × (journal.next < 2 ^ 64)) }
     ensures held { IfOk result (λ journal. (page : ℕ) → is_some (image_of page journal.images) ≡ has_page journal.summaries page) }
-    ensures placed { IfOk result (λ journal. (page : ℕ) → has_offset (slice_index_or journal.offsets page None) ≡ has_page journal.summaries page) }
+    ensures placed { IfOk result (λ journal. (page : ℕ)
+        → has_offset (slice_index_or journal.offsets page None) ≡ has_page journal.summaries page) }
     ensures within { IfOk result (λ journal. (page : ℕ) → has_page journal.summaries page ≡ true → (2 ≤ page) × (page < journal.pages)) }
     ensures settled { IfOk result (λ journal. IsSynced D.Disk journal.disk) }
     ensures since { IfOk result (λ journal. journal.since ≡ D.moment journal.disk) }

@@ -1,4 +1,4 @@
-use Rattle.std.proofs.Common.{◌≡◌, true, sym, ◌∙◌, rules}
+use Rattle.std.proofs.Common.{◌≡◌, true, rules}
 use Rattle.pm3_types.specs.Bytes.{are_zeros}
 use Rattle.pm3_journal.proofs.Departing.{zeros_within}
 use Rattle.pm3_journal.proofs.file_head.decode.Goals as goal

@@ -1,6 +1,5 @@
-use Rattle.std.proofs.Common.{◌≡◌, ◌+◌, ℕ, List, length}
+use Rattle.std.proofs.Common.{◌≡◌, ◌+◌, length}
 use Rattle.pm3_disk.specs.Content.{overwrite, TornWrite}
-use Rattle.pm3_disk.specs.Devices.{LeavesFromTold, Takes}
 use Rattle.pm3_disk.proofs.Leaving.{from_synced, from_read, then_step, takes_by}
 use Rattle.pm3_journal.specs.Gates.{EntryLeaves}
 use Rattle.pm3_journal.proofs.Gating.{on_err, put_behind, staged_by, told_steps}

@@ -1,4 +1,4 @@
-use Rattle.std.proofs.Common.{◌≡◌, ◌||◌, ◌&&◌, ◌==◌, ℕ, Bool, true, List, is_some, Option, sym, ◌∙◌, ap}
+use Rattle.std.proofs.Common.{◌||◌, ◌&&◌, ◌==◌, ℕ, List, is_some, Option, sym, ◌∙◌, ap}
 use Rattle.pm3_journal.specs.Offsets.{has_offset}
 use Rattle.pm3_journal.specs.Pages.{image_of}
 use Rattle.pm3_journal.proofs.Rising.{image_pushed}

@@ -1,7 +1,7 @@
 use Rattle.std.proofs.Common.{◌++◌, ℕ, List, get_or, None, sym, ◌∙◌, ap, arith}
 use Rattle.pm3_disk.proofs.OnlyReading.{reads_on}
 use Rattle.pm3_journal.specs.Offsets.{one_at}
-use Rattle.pm3_journal.proofs.Picturing.{images_step, room_step, room_there, has_more, has_none_yet, has_all}
+use Rattle.pm3_journal.proofs.Picturing.{images_step, room_step, room_there, has_more}
 use Rattle.pm3_journal.proofs.Scanning.{window_on}
 use Rattle.pm3_journal.proofs.image_reading.read_images.Goals as goal
 

@@ -1,9 +1,7 @@
-use Rattle.std.proofs.Common.{All, ◌≡◌, ◌<◌, ◌+◌, ◌++◌, ◌∷◌, [], List, ℕ, None, length, refl, sym, ◌∙◌, ap, subst, arith, rules, length-append}
+use Rattle.std.proofs.Common.{All, ◌≡◌, ◌<◌, ◌+◌, ◌++◌, ◌∷◌, [], ℕ, None, length, refl, sym, ◌∙◌, ap, subst, arith, rules, length-append}
 use Rattle.pm3_journal.specs.Entered.{record_of}
 use Rattle.pm3_journal.specs.Format.{body, closed_gate, IsFit}
-use Rattle.pm3_journal.specs.Gates.{AppendLeaves, entered}
 use Rattle.pm3_journal.specs.Summaries.{Summary, summary_of}
-use Rattle.pm3_journal.specs.declared.entry.Entry.{Entry}
 use Rattle.pm3_journal.proofs.Behind.{length_body, parts_low}
 use Rattle.pm3_journal.proofs.Continuing.{maybe_more, maybe_taken, one_more, keeps_failed, keeps_grown, space_stays}
 use Rattle.pm3_journal.proofs.journal.Journal.append.Goals as goal
