@@ -1,14 +1,14 @@
 -- The objects of images are collected in the order of their addresses.
-use Rattle.std.proofs.Common.{◌≡◌, ◌≢◌, ℕ, ◌+◌, ◌*◌, ◌-◌, ◌<◌, ◌≤◌, ◌++◌, ◌⊎◌, Bool, true, false, List, [], ◌∷◌, Option, None, Some, is_some, refl, sym, ap, subst, ◌∙◌, arith, inl, inr, append_assoc}
+use Rattle.std.proofs.Common.{◌≡◌, ℕ, ◌+◌, ◌<◌, ◌≤◌, ◌++◌, ◌⊎◌, true, false, List, [], ◌∷◌, Some, is_some, refl, sym, ap, subst, ◌∙◌, arith, inl, inr, append_assoc}
 use Rattle.std.proofs.lemmas.Bool.{cases_lt, cases_eq, false≢true}
 use Rattle.std.specs.FinMap as map
-use Rattle.pm3_types.specs.Layout.{PageImage, begins_at, is_address, page_in}
+use Rattle.pm3_types.specs.Layout.{PageImage, begins_at, page_in}
 use Rattle.pm3_types.specs.PassMoves.{IsListOf}
 use Rattle.pm3_types.proofs.Addressing as addressing
 use Rattle.pm3_page.specs.PageMap.{Images, IsAtHome}
 use Rattle.pm3_copy.specs.Whole.{IsObjectOf}
 use Rattle.pm3_copy.proofs.Listing.{list_none, list_one, list_join, list_as}
-use Rattle.pm3_copy.proofs.Wholes.{address_of, page_is, above_page, below_page, object_of, object_begins, some_of, none_some}
+use Rattle.pm3_copy.proofs.Wholes.{address_of, page_is, above_page, below_page, object_of, object_begins}
 
 -- a list behind another, in which the objects up to an address have been collected
 pub record AreAdded (base : ℕ) (image : PageImage) (at : ℕ) (old now : List ℕ) : Type 0 where
@@ -67,10 +67,10 @@ pub below_more : (base : ℕ) (images : Images) (n p : ℕ) (image : PageImage) 
     → ((q : ℕ) → n ≤ q → q < p → map.contains_key images q ≡ false)
     → (more : List ℕ) × (new ≡ list ++ more) × IsListOf (λ a. begins_at base image a ≡ true) more → AreBelow base images (p + 1) new
 unfolding AreBelow
-below_more base images n p image list new home are low on between (more , is , rest) =
+below_more base images n p image list new home are low on between (more, is, rest) =
     subst (AreBelow base images (p + 1)) (sym is)
     (list_join (λ a. IsObjectOf base images a × (page_in base a < n)) (λ a. begins_at base image a ≡ true) (λ a. IsObjectOf base images a × (page_in base a < p + 1)) list more are rest
-      less parts (λ a q. (q.0, omega (arith, q.1))) (λ a b. (object_of base images p image a home on b, (let e = page_is base image a b in let h = home p image on in omega arith))))
+    less parts (λ a q. (q.0, omega (arith, q.1))) (λ a b. (object_of base images p image a home on b, (let e = page_is base image a b in let h = home p image on in omega arith))))
   where
     less : (a b : ℕ) → IsObjectOf base images a × (page_in base a < n) → begins_at base image b ≡ true → a < b
     less a b first second =

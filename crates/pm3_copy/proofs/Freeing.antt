@@ -1,5 +1,5 @@
 -- The pages that are not pinned are given up.
-use Rattle.std.proofs.Common.{◌≡◌, ◌<◌, ◌≤◌, ◌+◌, ◌⊎◌, ◌↔◌, inl, inr, ◌∙◌, ℕ, Bool, true, false, refl, sym, ap, subst, arith}
+use Rattle.std.proofs.Common.{◌≡◌, ◌<◌, ◌≤◌, ◌+◌, ◌⊎◌, ◌↔◌, inl, inr, ◌∙◌, ℕ, Bool, true, false, sym, ap, arith}
 use Rattle.std.specs.Ordering.{nat_cmp}
 use Rattle.std.specs.FinSet as set
 use Rattle.std.specs.FinSet.{contains-empty}
@@ -44,7 +44,7 @@ freed_more has pinned old new n page are low is between frees p = (to, back)
     ]
 
     back : (p < page + 1) × (has p ≡ true) × (set.contains pinned p ≡ false) → set.contains new p ≡ true
-    back (below , there , free) = elim (cases_lt p n) [
+    back (below, there, free) = elim (cases_lt p n) [
       | inl before ↦ (frees p).1 (inl ((are p).1 (before, there, free)))
       | inr behind ↦ elim (cases_eq p page) [
         | inl same ↦ (frees p).1 (inr (same, sym (ap (set.contains pinned) same) ∙ free))

@@ -1,5 +1,5 @@
 -- Rising lists of the members of sets.
-use Rattle.std.proofs.Common.{◌≡◌, ◌≢◌, ◌<◌, ◌≤◌, ◌+◌, ◌-◌, ◌++◌, ◌⊎◌, inl, inr, ◌∙◌, ℕ, zero, suc, List, [], ◌∷◌, length, get_or, refl, sym, ap, subst, arith, length-append}
+use Rattle.std.proofs.Common.{◌≡◌, ◌<◌, ◌≤◌, ◌+◌, ◌-◌, ◌++◌, ◌⊎◌, inl, inr, ℕ, zero, suc, List, [], ◌∷◌, length, get_or, sym, arith, length-append}
 use Rattle.std.proofs.Math.ListN.{get_or-append}
 use Rattle.std.proofs.Math.Seq.{get_or-append_right}
 use Rattle.std.specs.List.{Contains}
@@ -8,14 +8,14 @@ use Rattle.std.proofs.lemmas.List.Elements.{Contains-append_left, Contains-appen
 use Rattle.pm3_types.specs.PassMoves.{IsRising, IsListOf}
 
 no_member : (a : ℕ) → Contains [] a → ⊥
-no_member a (k , low , is) = absurd (omega arith)
+no_member a (k, low, is) = absurd (omega arith)
 
 pub list_none : (P : ℕ → Type 0) → ((a : ℕ) → P a → ⊥) → IsListOf P []
 list_none P never = record { rising = λ i j less low. absurd (omega arith); only = λ a is. absurd (no_member a is); all = λ a is. absurd (never a is) }
 
 only_one : (a b : ℕ) → Contains (a ∷ []) b → b ≡ a
-only_one a b (zero , low , is) = sym is
-only_one a b (suc k , low , is) = absurd (omega arith)
+only_one a b (zero, low, is) = sym is
+only_one a b (suc k, low, is) = absurd (omega arith)
 
 pub list_one : (b : ℕ) → IsListOf (λ a. a ≡ b) (b ∷ [])
 list_one b = record {

@@ -1,5 +1,5 @@
 -- Objects are picked in the order of their addresses.
-use Rattle.std.proofs.Common.{◌≡◌, ◌<◌, ◌≤◌, ◌+◌, ◌++◌, ◌⊎◌, inl, inr, ◌∙◌, ℕ, true, false, List, [], ◌∷◌, length, get_or, refl, sym, ap, subst, arith}
+use Rattle.std.proofs.Common.{◌≡◌, ◌<◌, ◌≤◌, ◌+◌, ◌⊎◌, inl, inr, ◌∙◌, ℕ, List, [], ◌∷◌, length, get_or, sym, ap, subst, arith}
 use Rattle.std.specs.Ordering.{nat_cmp}
 use Rattle.std.specs.FinSet as set
 use Rattle.std.specs.List.{Contains}
@@ -29,28 +29,28 @@ module _ (base : ℕ) (pinned : set.FinSet nat_cmp) (but : List ℕ) (found : Fi
   picked_more n list new rising low takes are = by takes
     where
       split : (a : ℕ) → Picks base pinned but found a × IsBefore found.objects (n + 1) a → (Picks base pinned but found a × IsBefore found.objects n a) ⊎ (a ≡ get_or found.objects n 0)
-      split a (picks , before) = elim (cases_eq before.place n) [
+      split a (picks, before) = elim (cases_eq before.place n) [
         | inl same ↦ inr (sym before.is ∙ ap (λ k. get_or found.objects k 0) same)
         | inr apart ↦ inl (picks, record { place = before.place; low = omega (arith, before.low); is = before.is })
       ]
 
       wider : (a : ℕ) → Picks base pinned but found a × IsBefore found.objects n a → Picks base pinned but found a × IsBefore found.objects (n + 1) a
-      wider a (picks , before) = (picks, record { place = before.place; low = omega (arith, before.low); is = before.is })
+      wider a (picks, before) = (picks, record { place = before.place; low = omega (arith, before.low); is = before.is })
 
       by : TakesUp base pinned but found (get_or found.objects n 0) list new → IsListOf (λ a. Picks base pinned but found a × IsBefore found.objects (n + 1) a) new
-      by (inl (picks , is)) = subst (IsListOf (λ a. Picks base pinned but found a × IsBefore found.objects (n + 1) a)) (sym is)
+      by (inl (picks, is)) = subst (IsListOf (λ a. Picks base pinned but found a × IsBefore found.objects (n + 1) a)) (sym is)
           (list_join (λ a. Picks base pinned but found a × IsBefore found.objects n a) (λ a. a ≡ get_or found.objects n 0) (λ a. Picks base pinned but found a × IsBefore found.objects (n + 1) a)
-            list (get_or found.objects n 0 ∷ []) are (list_one (get_or found.objects n 0))
-            (λ a b p e. (let step = rising p.1.place n p.1.low low in let at = p.1.is in omega arith))
-            split wider
-            (λ a e. (subst (Picks base pinned but found) (sym e) picks, record { place = n; low = omega arith; is = sym e })))
-      by (inr (never , is)) = subst (IsListOf (λ a. Picks base pinned but found a × IsBefore found.objects (n + 1) a)) (sym is)
+          list (get_or found.objects n 0 ∷ []) are (list_one (get_or found.objects n 0))
+          (λ a b p e. (let step = rising p.1.place n p.1.low low in let at = p.1.is in omega arith))
+          split wider
+          (λ a e. (subst (Picks base pinned but found) (sym e) picks, record { place = n; low = omega arith; is = sym e })))
+      by (inr (never, is)) = subst (IsListOf (λ a. Picks base pinned but found a × IsBefore found.objects (n + 1) a)) (sym is)
           (list_as _ (λ a. Picks base pinned but found a × IsBefore found.objects (n + 1) a) list are wider
-            (λ a p. elim (split a p) [ inl before ↦ before | inr same ↦ absurd (never (subst (Picks base pinned but found) same p.0)) ]))
+          (λ a p. elim (split a p) [ inl before ↦ before | inr same ↦ absurd (never (subst (Picks base pinned but found) same p.0)) ]))
 
   pub picked_all : (n : ℕ) (list : List ℕ) → length found.objects ≤ n → ((a : ℕ) → Contains found.list a → Contains found.objects a) → ArePicked n list → IsListOf (Picks base pinned but found) list
   unfolding ArePicked
   picked_all n list end whole are = list_as _ (Picks base pinned but found) list are (λ a p. p.0) (λ a p. (p, at a (whole a p.0)))
     where
       at : (a : ℕ) → Contains found.objects a → IsBefore found.objects n a
-      at a (k , low , is) = record { place = k; low = omega arith; is = get_or_default found.objects k 0 a low ∙ is }
+      at a (k, low, is) = record { place = k; low = omega arith; is = get_or_default found.objects k 0 a low ∙ is }

@@ -1,5 +1,5 @@
 -- The lists of a plan.
-use Rattle.std.proofs.Common.{◌≡◌, ◌<◌, ◌≤◌, ◌+◌, ◌*◌, ◌^◌, ◌⊎◌, inl, inr, ◌∙◌, ℕ, true, false, List, [], length, get_or, Option, None, Some, is_some, refl, sym, ap, subst, arith}
+use Rattle.std.proofs.Common.{◌≡◌, ◌<◌, ◌≤◌, ◌+◌, inl, inr, ◌∙◌, ℕ, true, false, List, [], length, get_or, Option, None, Some, is_some, refl, ap, arith}
 use Rattle.std.specs.Ordering.{nat_cmp}
 use Rattle.std.specs.FinSet as set
 use Rattle.std.specs.List.{All, Contains}
@@ -7,7 +7,7 @@ use Rattle.std.proofs.lemmas.List.Elements.{Contains-get_or, All-map}
 use Rattle.pm3_types.specs.Fields.{Fields}
 use Rattle.pm3_types.specs.Layout.{Sheet, PageImage, is_address, page_in, word_in}
 use Rattle.pm3_types.specs.PassMoves.{IsRising, IsListOf, AreMovers, size_on, size_from, sizes}
-use Rattle.pm3_types.specs.PassSets.{Before, is_pinned, Promoted, Kept, Live}
+use Rattle.pm3_types.specs.PassSets.{is_pinned, Promoted, Kept, Live}
 use Rattle.pm3_types.proofs.PassLater.{promoted_there, kept_there}
 use Rattle.pm3_page.specs.PageMap.{Images}
 use Rattle.pm3_page.specs.PageSheets.{AreSoundPages, sheet_in, sheets_of}
@@ -15,13 +15,13 @@ use Rattle.pm3_page.proofs.SheetsOf.{get-sheets_of}
 use Rattle.std.specs.FinMap as map
 use Rattle.pm3_copy.specs.Finds.{Finds, AreFound}
 use Rattle.pm3_copy.specs.Spreading.{AreOnPages, Picks, before_of}
-use Rattle.pm3_copy.specs.Whole.{IsObjectOf, IsWhole}
+use Rattle.pm3_copy.specs.Whole.{IsObjectOf}
 use Rattle.pm3_copy.proofs.Listing.{list_as, rising_room}
 use Rattle.pm3_copy.proofs.Stayers.{kept_apart}
-use Rattle.pm3_copy.proofs.Wholes.{address_of, above_page, below_page, object_there, sheet_on, whole_at, some_of}
+use Rattle.pm3_copy.proofs.Wholes.{address_of, above_page, below_page, object_there, sheet_on, whole_at}
 
 nothing_in : (a : ℕ) → Contains [] a → ⊥
-nothing_in a (k , low , is) = absurd (omega arith)
+nothing_in a (k, low, is) = absurd (omega arith)
 
 module _ (catalog : List Fields) (base : ℕ) (images : Images) (sound : AreSoundPages catalog base 16384 images) where
   -- where the objects of the images lie
@@ -75,7 +75,7 @@ module _ (catalog : List Fields) (base : ℕ) (images written : Images) (pinned 
       to (λ a p. (are.all a (inr p.0), p.1, λ is. kept_apart catalog base (before_of images written pinned) a p.0 (movers.only a is).0))
     where
       to : (a : ℕ) → Picks base pinned first found a → Kept catalog base (before_of images written pinned) a × (is_pinned base (before_of images written pinned) a ≡ false)
-      to a (there , free , others) = (by (are.only a there), free)
+      to a (there, free, others) = (by (are.only a there), free)
         where
           by : Live catalog base (before_of images written pinned) a → Kept catalog base (before_of images written pinned) a
           by (inl promoted) = absurd (others (movers.all a (promoted, free)))

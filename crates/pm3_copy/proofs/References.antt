@@ -1,22 +1,17 @@
 -- What is found by one loop after another: the places of an object, the objects of an image, the images.
-use Rattle.std.proofs.Common.{◌≡◌, ◌≢◌, ℕ, ◌+◌, ◌*◌, ◌-◌, ◌<◌, ◌≤◌, ◌⊎◌, Bool, true, false, List, Option, None, Some, is_some, slice_index, refl, sym, ap, subst, ◌∙◌, arith, inl, inr}
+use Rattle.std.proofs.Common.{◌≡◌, ◌≢◌, ℕ, ◌+◌, ◌-◌, ◌<◌, ◌≤◌, ◌⊎◌, Bool, true, false, List, Option, None, Some, slice_index, sym, ap, subst, ◌∙◌, arith, inl, inr}
 use Rattle.std.proofs.lemmas.Bool.{cases_lt, cases_eq, false≢true}
-use Rattle.std.specs.FinMap as map
-use Rattle.std.specs.FinSet as set
-use Rattle.std.specs.Ordering.{nat_cmp}
 use Rattle.std.specs.List.{Contains}
 use Rattle.pm3_types.specs.Fields.{Fields}
 use Rattle.pm3_types.specs.declared.type_map.Tail.{Tail}
 use Rattle.pm3_types.specs.declared.type_map.Tail.TheVariants.{Empty, Refs, Bytes}
-use Rattle.pm3_types.specs.Layout.{Sheet, PageImage, begins_at, is_address, page_in, word_in, size_at, size_by, tail_words}
+use Rattle.pm3_types.specs.Layout.{Sheet, PageImage, begins_at, size_at, size_by, tail_words}
 use Rattle.pm3_types.specs.PageForm.{IsReferenceIn, IsTailReference, map_at, tail_at}
 use Rattle.pm3_types.proofs.Addressing as addressing
-use Rattle.pm3_page.specs.PageMap.{Images, IsAtHome}
 use Rattle.pm3_copy.specs.Finds.{Finds, Adds}
-use Rattle.pm3_copy.specs.References.{RefersIn, RootsOn, ObjectsOn, RefersOn, RefersFrom}
-use Rattle.pm3_copy.specs.Whole.{IsObjectOf}
+use Rattle.pm3_copy.specs.References.{RefersIn, RootsOn, ObjectsOn, RefersOn}
 use Rattle.pm3_copy.proofs.Adding.{adds_none, adds_then, adds_as}
-use Rattle.pm3_copy.proofs.Wholes.{address_of, page_is, object_of, object_begins, none_some}
+use Rattle.pm3_copy.proofs.Wholes.{address_of}
 
 tail_within : (tail : Tail) (len k : ℕ) → IsTailReference tail len k → k < tail_words tail len
 tail_within Empty len k is = absurd is

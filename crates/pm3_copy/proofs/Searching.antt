@@ -33,7 +33,7 @@ module _ (xs : List ℕ) (word : ℕ) (r : Result ℕ ℕ) (is : IsBinarySearchR
   hit i e = hit_by r i e (searched xs word r is not_falling)
 
   pub miss : (i : ℕ) → r ≡ Err i → Contains xs word → ⊥
-  miss i e (k , low , there) = miss_by r i e (searched xs word r is not_falling) k low (get_or_default xs k 0 word low ∙ there)
+  miss i e (k, low, there) = miss_by r i e (searched xs word r is not_falling) k low (get_or_default xs k 0 word low ∙ there)
 
   among_by : (o : Result ℕ ℕ) → r ≡ o → IsTrue (is_ok o) ↔ Contains xs word
   among_by (Ok i) e = (λ _. (let at = hit i e in (i, at.0, get_or_default xs i word 0 at.0 ∙ at.1)), λ _. search rules)

@@ -1,5 +1,5 @@
 -- Collections of images that have the form.
-use Rattle.std.proofs.Common.{◌≡◌, ◌≢◌, ◌<◌, ◌∙◌, inl, inr, ℕ, true, false, cond, List, Option, None, Some, is_some, refl, sym, ap, subst}
+use Rattle.std.proofs.Common.{◌≡◌, ◌≢◌, ◌<◌, ◌∙◌, inl, inr, ℕ, cond, List, None, Some, is_some, sym, ap, subst}
 use Rattle.std.specs.Ordering.{nat_cmp}
 use Rattle.std.specs.Cmp.{nat_cmp_total, unsigned_tied}
 use Rattle.std.specs.FinMap as map
@@ -10,7 +10,7 @@ use Rattle.pm3_types.specs.Layout.{PageImage}
 use Rattle.pm3_types.specs.PageForm.{IsSound}
 use Rattle.pm3_page.specs.PageMap.{Images}
 use Rattle.pm3_page.specs.PageSheets.{AreSoundPages}
-use Rattle.pm3_copy.proofs.Wholes.{same_some, none_some, some_of}
+use Rattle.pm3_copy.proofs.Wholes.{same_some, none_some}
 
 pub get_here : (images : Images) (p q : ℕ) (image : PageImage) → q ≡ p → map.get (map.insert images p image) q ≡ Some image
 get_here images p q image same = get-insert nat_cmp_total images p image q ∙ ap (λ b. cond b (Some image) (map.get images q)) (unsigned_tied q p ∙ eq-eqb q p same)

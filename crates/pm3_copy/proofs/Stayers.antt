@@ -1,17 +1,15 @@
 -- The objects that stay in the space are found besides those that turn persistent.
-use Rattle.std.proofs.Common.{◌≡◌, ◌<◌, ◌≤◌, ◌+◌, ◌⊎◌, inl, inr, ◌∙◌, ℕ, zero, suc, true, false, List, [], ◌∷◌, length, get_or, refl, sym, ap, subst, arith}
+use Rattle.std.proofs.Common.{◌≡◌, ◌<◌, ◌≤◌, ◌+◌, ◌⊎◌, inl, inr, ◌∙◌, ℕ, zero, suc, true, List, [], ◌∷◌, length, get_or, sym, subst, arith}
 use Rattle.std.specs.Ordering.{nat_cmp}
 use Rattle.std.specs.FinSet as set
 use Rattle.std.specs.List.{Contains}
 use Rattle.std.proofs.lemmas.Bool.{cases_eq, cases_lt}
 use Rattle.std.proofs.lemmas.List.{get_or_default}
-use Rattle.std.proofs.lemmas.List.Elements.{Contains-get_or}
 use Rattle.pm3_types.specs.Fields.{Fields}
 use Rattle.pm3_types.specs.Layout.{page_in}
-use Rattle.pm3_types.specs.Least.{Least}
 use Rattle.pm3_types.specs.Least.Least.{begin, next}
 use Rattle.pm3_types.specs.PassMoves.{IsListOf}
-use Rattle.pm3_types.specs.PassSets.{Before, is_of_space, is_pinned, IsReferredTo, BringsAlong, Promoted, StaysPinned, Keeps, Kept, Live}
+use Rattle.pm3_types.specs.PassSets.{Before, is_of_space, Promoted, StaysPinned, Kept, Live}
 use Rattle.pm3_page.specs.PageMap.{Images}
 use Rattle.pm3_page.specs.PageSheets.{AreSoundPages}
 use Rattle.pm3_copy.specs.Finds.{Finds, Adds, AreFound}
@@ -32,8 +30,8 @@ is_in (x ∷ xs) a = elim (cases_eq x a) [
 ]
   where
     later : (x ≡ a → ⊥) → (Contains xs a → ⊥) → Contains (x ∷ xs) a → ⊥
-    later apart nowhere (zero , low , is) = apart is
-    later apart nowhere (suc k , low , is) = nowhere (k, omega arith, is)
+    later apart nowhere (zero, low, is) = apart is
+    later apart nowhere (suc k, low, is) = nowhere (k, omega arith, is)
 
 -- nothing is both promoted and kept
 pub kept_apart : (catalog : List Fields) (base : ℕ) (before : Before) (a : ℕ) → Kept catalog base before a → Promoted catalog base before a → ⊥
@@ -117,7 +115,7 @@ module _ (catalog : List Fields) (base : ℕ) (images : Images) (pinned : set.Fi
       kept_found _ (next a b member leads) = by (kept_found a member)
         where
           by : Contains found.list a → Contains found.list b
-          by (k , low , at) = elim (cases_lt k (length old.list)) [
+          by (k, low, at) = elim (cases_lt k (length old.list)) [
             | inl before ↦ absurd (kept_apart catalog base (before_of images written pinned) a member (are.only a (was_found k a low before at)))
             | inr behind ↦ (
                 let e : get_or found.list k 0 ≡ a = get_or_default found.list k 0 a low ∙ at in

@@ -1,27 +1,27 @@
 -- A pinned page with a promoted object is turned whole.
-use Rattle.std.proofs.Common.{◌≡◌, ◌≢◌, ◌<◌, ◌≤◌, ◌+◌, ◌++◌, ◌⊎◌, ◌↔◌, ◌||◌, inl, inr, ◌∙◌, ℕ, Bool, true, false, List, length, get_or, Option, Some, None, refl, sym, ap, subst, arith}
+use Rattle.std.proofs.Common.{◌≡◌, ◌<◌, ◌≤◌, ◌+◌, ◌⊎◌, ◌||◌, inl, inr, ◌∙◌, ℕ, Bool, true, false, List, length, get_or, Some, refl, sym, ap, subst, arith}
 use Rattle.std.specs.Ordering.{nat_cmp, eq_by_cmp}
 use Rattle.std.specs.Cmp.{nat_cmp_total, unsigned_tied}
 use Rattle.std.specs.FinMap as map
 use Rattle.std.specs.FinSet as set
 use Rattle.std.specs.FinSet.{contains-insert, contains-empty}
 use Rattle.std.specs.List.{Contains}
-use Rattle.std.proofs.lemmas.Bool.{cases_eq, cases_Bool, eq-eqb, ne_eqb, or_parts, false≢true}
+use Rattle.std.proofs.lemmas.Bool.{cases_eq, eq-eqb, ne_eqb, false≢true}
 use Rattle.pm3_types.specs.Fields.{Fields}
 use Rattle.pm3_types.specs.Layout.{Sheet, PageImage, begins_at, page_in, word_in}
 use Rattle.pm3_types.specs.Objects.{RefersTo, RootIs, is_object_at}
-use Rattle.pm3_types.specs.PassSets.{Before, IsReferredTo, BringsAlong, Promoted, Turns, is_of_space, is_pinned}
+use Rattle.pm3_types.specs.PassSets.{IsReferredTo, BringsAlong, Promoted, Turns, is_pinned}
 use Rattle.pm3_types.specs.Least.Least.{begin, next}
 use Rattle.pm3_types.specs.PassMoves.{IsListOf}
-use Rattle.pm3_page.specs.PageMap.{Images, IsAtHome}
+use Rattle.pm3_page.specs.PageMap.{Images}
 use Rattle.pm3_page.specs.PageSheets.{AreSoundPages, sheets_of}
 use Rattle.pm3_copy.specs.Finds.{Finds, Adds, AreFound}
-use Rattle.pm3_copy.specs.References.{RefersIn, RootsOn, ObjectsOn, RefersOn, RefersFrom}
+use Rattle.pm3_copy.specs.References.{RefersIn, RefersOn, RefersFrom}
 use Rattle.pm3_copy.specs.Spreading.{IsSpread, AreWhole, AreTurned, LeadsTo, TurnsPage, before_of}
 use Rattle.pm3_copy.specs.Whole.{IsObjectOf}
-use Rattle.pm3_copy.proofs.Adding.{adds_keeps, adds_then, adds_as, adds_none}
+use Rattle.pm3_copy.proofs.Adding.{adds_keeps, adds_then}
 use Rattle.pm3_copy.proofs.WorkLists.{spread_none, spread_more, complete, place_kept, no_fewer}
-use Rattle.pm3_copy.proofs.Wholes.{object_of, object_begins, object_here, object_there, sheet_on, image_on, same_some, page_is, address_of, on_objects, start_of}
+use Rattle.pm3_copy.proofs.Wholes.{object_of, object_begins, object_here, object_there, sheet_on, image_on, same_some, page_is, on_objects, start_of}
 use Rattle.std.proofs.lemmas.List.{get_or_default}
 use Rattle.std.proofs.lemmas.List.Elements.{Contains-get_or}
 
@@ -105,13 +105,13 @@ module _ (catalog : List Fields) (base : ℕ) (images written : Images) (pinned 
       inr (objects.1.0, object_here catalog base 16384 written objects.1.0 others object, refers_to catalog base written others objects.1.0 b image here objects.1.2)
 
   pub referred : (b : ℕ) → IsObjectOf base images b → RefersFrom catalog base written b → IsReferredTo catalog base (before_of images written pinned) b
-  referred b object (p , image , on , refers) = (object_here catalog base 16384 images b sound object, by_image b p image on refers)
+  referred b object (p, image, on, refers) = (object_here catalog base 16384 images b sound object, by_image b p image on refers)
 
   from_by : (b : ℕ) → RootIs (sheets_of written) b ⊎ ((a : ℕ) × (is_object_at base (sheets_of written) a ≡ true) × RefersTo catalog base (sheets_of written) a b) → RefersFrom catalog base written b
   from_by b (inl roots) =
       let at = image_on written 2 roots.sheet roots.on in
       (2, at.0, at.1, inl (others.home 2 at.0 at.1, (roots.slot, roots.low, ap (λ (s : Sheet). get_or s.words (2 + roots.slot) 0) at.2 ∙ roots.is)))
-  from_by b (inr (a , is , refers)) =
+  from_by b (inr (a, is, refers)) =
       let object = object_there catalog base 16384 written a others is in
       (page_in base a, object.image, object.on, inr (not_roots object, (a, object.begins, refers_in catalog base written others a b object.image object.on refers)))
     where
@@ -119,7 +119,7 @@ module _ (catalog : List Fields) (base : ℕ) (images written : Images) (pinned 
       not_roots object is_ = (on_objects catalog base 16384 object.image (word_in base a) (others.form (page_in base a) object.image object.on) (start_of base object.image a object.begins)).0 is_
 
   pub referred_from : (b : ℕ) → IsReferredTo catalog base (before_of images written pinned) b → IsObjectOf base images b × RefersFrom catalog base written b
-  referred_from b (of_space , by) = (object_there catalog base 16384 images b sound of_space, from_by b by)
+  referred_from b (of_space, by) = (object_there catalog base 16384 images b sound of_space, from_by b by)
 
   -- what a promoted object leads to is promoted
   pub promotes : (a b : ℕ) → IsObjectOf base images b → Promoted catalog base (before_of images written pinned) a → LeadsTo catalog base images pinned a b → Promoted catalog base (before_of images written pinned) b
@@ -130,7 +130,7 @@ module _ (catalog : List Fields) (base : ℕ) (images written : Images) (pinned 
       by (inr p) = inr (p.0, p.2)
 
   pub brings : (a b : ℕ) → BringsAlong catalog base (before_of images written pinned) a b → IsObjectOf base images b × LeadsTo catalog base images pinned a b
-  brings a b (of_space , by) = (object_there catalog base 16384 images b sound of_space, to by)
+  brings a b (of_space, by) = (object_there catalog base 16384 images b sound of_space, to by)
     where
       to : RefersTo catalog base (sheets_of images) a b ⊎ ((is_pinned base (before_of images written pinned) a ≡ true) × (page_in base b ≡ page_in base a)) → LeadsTo catalog base images pinned a b
       to (inl r) = inl r
@@ -211,9 +211,9 @@ module _ (catalog : List Fields) (base : ℕ) (images written : Images) (pinned 
   turned_all found turned done state end p = (state.turns p, back)
     where
       back : Turns catalog base (before_of images written pinned) p → set.contains turned p ≡ true
-      back (is , (a , on , member)) = by ((promoting_all found turned done state end).all a member)
+      back (is, (a, on, member)) = by ((promoting_all found turned done state end).all a member)
         where
           by : Contains found.list a → set.contains turned p ≡ true
-          by (k , low , at) =
+          by (k, low, at) =
               let e : page_in base (get_or found.list k 0) ≡ p = ap (page_in base) (get_or_default found.list k 0 a low ∙ at) ∙ on in
               sym (ap (set.contains turned) e) ∙ state.all k (omega arith) low (ap (set.contains pinned) e ∙ is)

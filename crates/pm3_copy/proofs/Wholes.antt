@@ -1,13 +1,12 @@
 -- Where the objects of images lie, and that those of sound images lie whole.
-use Rattle.std.proofs.Common.{◌≡◌, ◌≢◌, ℕ, zero, suc, ◌+◌, ◌*◌, ◌-◌, ◌/◌, ◌%◌, ◌^◌, ◌<◌, ◌≤◌, ◌==◌, ◌&&◌, Bool, true, false, eqb, ltb, leb, cond, not, List, replicate, Option, None, Some, is_some, refl, sym, ap, subst, ◌∙◌, arith, inl, inr}
-use Rattle.std.proofs.lemmas.Bool.{cases_eq, cases_lt, and_parts, and_from, ne_eqb, eqb-true, eq-eqb, ltb-true, leb-true, false_from_ne_true, false≢true}
-use Rattle.std.specs.Prelude.{slice_get, slice_index, slice_index_or}
+use Rattle.std.proofs.Common.{◌≡◌, ◌≢◌, ℕ, zero, suc, ◌+◌, ◌*◌, ◌^◌, ◌<◌, ◌≤◌, ◌==◌, ◌&&◌, true, false, ltb, leb, not, List, replicate, Option, None, Some, is_some, refl, sym, ap, subst, ◌∙◌, arith, inl, inr}
+use Rattle.std.proofs.lemmas.Bool.{cases_eq, and_parts, and_from, eqb-true, eq-eqb, ltb-true, leb-true, false_from_ne_true, false≢true}
+use Rattle.std.specs.Prelude.{slice_index, slice_index_or}
 use Rattle.std.specs.FinMap as map
 use Rattle.pm3_types.specs.Fields.{Fields}
-use Rattle.pm3_types.specs.Layout.{Sheet, PageImage, IsNextObject, is_start, is_unmoved, type_in, tail_in, size_by, is_forwarded, is_address, page_in, word_in, begins_at, head_at}
-use Rattle.pm3_types.specs.Objects.{is_object_at, is_unmoved_on, RefersTo}
+use Rattle.pm3_types.specs.Layout.{Sheet, PageImage, is_start, is_unmoved, size_by, is_forwarded, is_address, page_in, word_in, begins_at}
+use Rattle.pm3_types.specs.Objects.{is_object_at, is_unmoved_on}
 use Rattle.pm3_types.specs.PageForm.{IsSound, HasObjects, map_at, tail_at, is_head_of, is_memory_reference}
-use Rattle.pm3_types.specs.Shown as shown
 use Rattle.pm3_types.proofs.Addressing as addressing
 use Rattle.pm3_page.specs.PageMap.{Images, IsAtHome}
 use Rattle.pm3_page.specs.PageSheets.{AreSoundPages, sheet_in, sheets_of}

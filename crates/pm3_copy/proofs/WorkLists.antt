@@ -1,5 +1,5 @@
 -- A work list comes to the least set.
-use Rattle.std.proofs.Common.{◌≡◌, ◌<◌, ◌≤◌, ◌+◌, ◌++◌, ◌⊎◌, inl, inr, ◌∙◌, ℕ, List, length, get_or, refl, sym, ap, subst, arith, length-append}
+use Rattle.std.proofs.Common.{◌≡◌, ◌<◌, ◌≤◌, ◌+◌, inl, inr, ◌∙◌, ℕ, length, get_or, sym, ap, subst, arith, length-append}
 use Rattle.std.proofs.Math.ListN.{get_or-append}
 use Rattle.std.specs.List.{Contains}
 use Rattle.std.proofs.lemmas.Bool.{cases_eq}
@@ -51,7 +51,7 @@ complete InSet Begins Leads Follows found done spread end begun to _ (begin a fi
 complete InSet Begins Leads Follows found done spread end begun to _ (next a b member leads) = by (complete InSet Begins Leads Follows found done spread end begun to a member)
   where
     by : Contains found.list a → Contains found.list b
-    by (k , low , is) =
+    by (k, low, is) =
         let e : get_or found.list k 0 ≡ a = get_or_default found.list k 0 a low ∙ is in
         let P : ℕ → Type 0 = λ x. Follows x b in
         let there = to a b leads in

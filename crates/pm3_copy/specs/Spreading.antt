@@ -2,7 +2,6 @@
 use Rattle.std.specs.Prelude.{ℕ, ◌≡◌, ◌⊎◌, ◌↔◌, ◌<◌, ◌≤◌, ◌++◌, true, false, List, [], ◌∷◌, length, slice_index}
 use Rattle.std.specs.List.{Contains}
 use Rattle.std.specs.FinSet as set
-use Rattle.std.specs.FinMap as map
 use Rattle.std.specs.Ordering.{nat_cmp}
 use Rattle.pm3_types.specs.Fields.{Fields}
 use Rattle.pm3_types.specs.Layout.{is_address, page_in}

@@ -17,6 +17,7 @@ use pm3_types::{Catalog, TypeMap};
 
 /// The page of the roots, and the number of root slots.
 const ROOTS_PAGE: PageNo = 2;
+
 const ROOT_SLOTS: u32 = 16;
 
 /// Finds the objects that the object at `at` refers to.
@@ -33,14 +34,7 @@ pub(crate) fn find_referred(catalog: &Catalog, image: &Image, at: Addr, found: &
 }
 
 /// Finds the object that stands in a place of the object at `at`, if the place is that of a reference.
-fn find_at_place(
-    map: TypeMap,
-    tail: u32,
-    image: &Image,
-    at: Addr,
-    place: u32,
-    found: &mut Found,
-)
+fn find_at_place(map: TypeMap, tail: u32, image: &Image, at: Addr, place: u32, found: &mut Found)
     requires object { begins_at BASE image.now at ≡ true }
     requires within { word_in BASE at + 2 + place < 512 }
     ensures { Adds (λ b. IsReferenceIn (Some map) tail place × (slice_index image.now.sheet.words (word_in BASE at + 2 + place) ≡ b)) found.old found.new }

@@ -140,7 +140,14 @@ fn what_a_pinned_page_refers_to_stays_in_the_space(rt: HostRuntime) -> Result<()
     let catalog = types(rt.alloc())?;
     let volatile = two_pages(rt.alloc(), &catalog, 0)?;
     let written = none(rt.alloc(), &catalog);
-    expect_plan(rt.alloc(), &catalog, &volatile, &written, &[3], [0, 1, 1, 1])
+    expect_plan(
+        rt.alloc(),
+        &catalog,
+        &volatile,
+        &written,
+        &[3],
+        [0, 1, 1, 1],
+    )
 }
 
 #[test]
@@ -155,7 +162,13 @@ fn all_is_dead_that_nothing_refers_to(rt: HostRuntime) -> Result<(), Fail> {
 fn root(alloc: Global, catalog: &Catalog, to: u64) -> Result<Pages, Fail>
     ensures { IfOk result (λ pages. AreSoundPages catalog.now BASE 16384 pages.images) }
 {
-    with_page(alloc, catalog, none(alloc, catalog), 2, &[(0, page_head(2, 18)), (2, to)])
+    with_page(
+        alloc,
+        catalog,
+        none(alloc, catalog),
+        2,
+        &[(0, page_head(2, 18)), (2, to)],
+    )
 }
 
 #[test]
@@ -163,14 +176,27 @@ fn a_cycle_over_a_pinned_page_moves_in_part(rt: HostRuntime) -> Result<(), Fail>
     let catalog = types(rt.alloc())?;
     let volatile = two_pages(rt.alloc(), &catalog, reference(3, 2))?;
     let written = root(rt.alloc(), &catalog, reference(4, 2))?;
-    expect_plan(rt.alloc(), &catalog, &volatile, &written, &[3], [1, 0, 1, 1])
+    expect_plan(
+        rt.alloc(),
+        &catalog,
+        &volatile,
+        &written,
+        &[3],
+        [1, 0, 1, 1],
+    )
 }
 
 /// Two objects on page 3, the first a root.
 fn two_objects(alloc: Global, catalog: &Catalog) -> Result<Pages, Fail>
     ensures { IfOk result (λ pages. AreSoundPages catalog.now BASE 16384 pages.images) }
 {
-    with_page(alloc, catalog, none(alloc, catalog), 3, &[(0, page_head(3, 8)), (3, 1), (6, 2)])
+    with_page(
+        alloc,
+        catalog,
+        none(alloc, catalog),
+        3,
+        &[(0, page_head(3, 8)), (3, 1), (6, 2)],
+    )
 }
 
 #[test]
@@ -178,7 +204,14 @@ fn a_page_that_a_word_names_stays_whole(rt: HostRuntime) -> Result<(), Fail> {
     let catalog = types(rt.alloc())?;
     let volatile = two_objects(rt.alloc(), &catalog)?;
     let written = root(rt.alloc(), &catalog, reference(3, 2))?;
-    expect_plan(rt.alloc(), &catalog, &volatile, &written, &[3], [0, 0, 1, 0])
+    expect_plan(
+        rt.alloc(),
+        &catalog,
+        &volatile,
+        &written,
+        &[3],
+        [0, 0, 1, 0],
+    )
 }
 
 #[test]
@@ -194,8 +227,20 @@ fn without_a_pin_what_is_reached_moves(rt: HostRuntime) -> Result<(), Fail> {
 fn large_objects(alloc: Global, catalog: &Catalog) -> Result<Pages, Fail>
     ensures { IfOk result (λ pages. AreSoundPages catalog.now BASE 16384 pages.images) }
 {
-    let first = [(0, page_head(3, 392)), (3, 1), (4, reference(4, 389)), (5, head(3072)), (6, 2)];
-    let second = [(0, page_head(4, 392)), (2, head(3072)), (3, 3), (390, 4), (391, reference(3, 2))];
+    let first = [
+        (0, page_head(3, 392)),
+        (3, 1),
+        (4, reference(4, 389)),
+        (5, head(3072)),
+        (6, 2),
+    ];
+    let second = [
+        (0, page_head(4, 392)),
+        (2, head(3072)),
+        (3, 3),
+        (390, 4),
+        (391, reference(3, 2)),
+    ];
     let pages = with_page(alloc, catalog, none(alloc, catalog), 3, &first)?;
     with_page(alloc, catalog, pages, 4, &second)
 }
@@ -205,7 +250,14 @@ fn a_pinned_page_turns_persistent_and_the_rest_follows(rt: HostRuntime) -> Resul
     let catalog = types(rt.alloc())?;
     let volatile = large_objects(rt.alloc(), &catalog)?;
     let written = root(rt.alloc(), &catalog, reference(3, 2))?;
-    expect_plan(rt.alloc(), &catalog, &volatile, &written, &[3], [1, 0, 1, 1])
+    expect_plan(
+        rt.alloc(),
+        &catalog,
+        &volatile,
+        &written,
+        &[3],
+        [1, 0, 1, 1],
+    )
 }
 
 #[test]

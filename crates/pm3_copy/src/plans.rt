@@ -27,13 +27,13 @@ impl Model for Plan {
     ghost coded = { plan_code };
 
     ghost view = { λ p. record {
-        persistent = p.persistent;
-        volatile = p.volatile;
-        pins = p.pins;
-        moved = p.moved;
-        promoted = p.promoted.items;
-        kept = p.kept.items;
-        turned = p.turned;
-        freed = p.freed;
+      persistent = p.persistent;
+      volatile = p.volatile;
+      pins = p.pins;
+      moved = p.moved;
+      promoted = p.promoted.items;
+      kept = p.kept.items;
+      turned = p.turned;
+      freed = p.freed;
     } };
 }

@@ -1,7 +1,5 @@
-use Rattle.std.proofs.Common.{◌≡◌, ◌≢◌, ◌∙◌, sym}
+use Rattle.std.proofs.Common.{◌∙◌, sym}
 use Rattle.pm3_core.specs.declared.naming.TheConstants.{BASE}
-use Rattle.pm3_copy.specs.References.{RefersOn, RootsOn, ObjectsOn}
-use Rattle.pm3_copy.proofs.Adding.{adds_as}
 use Rattle.pm3_copy.proofs.References.{by_roots, by_objects}
 use Rattle.pm3_copy.proofs.finding.find_from_image.Goals as goal
 

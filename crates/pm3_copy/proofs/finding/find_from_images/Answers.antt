@@ -1,8 +1,7 @@
-use Rattle.std.proofs.Common.{◌≡◌, ◌+◌, ◌≤◌, ◌∙◌, ℕ, Some, is_some, sym, ap, subst, arith}
+use Rattle.std.proofs.Common.{◌≡◌, ◌∙◌, ℕ, Some, is_some, sym, ap, subst, arith}
 use Rattle.std.specs.FinMap as map
 use Rattle.pm3_core.specs.declared.naming.TheConstants.{BASE}
 use Rattle.pm3_types.specs.Layout.{PageImage}
-use Rattle.pm3_copy.specs.Finds.{Adds}
 use Rattle.pm3_copy.specs.References.{RefersOn, RefersFrom}
 use Rattle.pm3_copy.proofs.Adding.{adds_as}
 use Rattle.pm3_copy.proofs.References.{pages_more, pages_all}
@@ -18,8 +17,8 @@ loop-page-preserved c =
       adds = pages_more (map.contains_key c.args.images.now.images) Leads c.loop-page.from c.in-Some.page c.args.found.now c.loop-page.found c.find_from_image.new.found
           c.in-Some.ensures.next.reached c.in-Some.ensures.next.there c.in-Some.ensures.next.least c.loop-page.invariant.adds
           (adds_as (RefersOn c.args.catalog.now BASE c.in-Some-get.image.now) (Leads c.in-Some.page) c.loop-page.found c.find_from_image.new.found c.find_from_image.ensures
-              (λ b there r. subst (λ i. RefersOn c.args.catalog.now BASE i b) (same_some r.0 c.in-Some-get.image.now (sym r.1 ∙ on)) r.2)
-              (λ b r. (c.in-Some-get.image.now, on, r)));
+          (λ b there r. subst (λ i. RefersOn c.args.catalog.now BASE i b) (same_some r.0 c.in-Some-get.image.now (sym r.1 ∙ on)) r.2)
+          (λ b r. (c.in-Some-get.image.now, on, r)));
       low = omega arith;
     }
 

@@ -1,4 +1,4 @@
-use Rattle.std.proofs.Common.{ℕ, ◌-◌, ◌≤◌, ◌≡◌, Some}
+use Rattle.std.proofs.Common.{◌-◌, ◌≤◌, ◌≡◌, Some}
 use Rattle.std.specs.FinMap as map
 use Rattle.pm3_core.specs.declared.naming.TheConstants.{BASE}
 use Rattle.pm3_types.specs.Layout.{PageImage}

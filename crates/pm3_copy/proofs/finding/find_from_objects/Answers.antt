@@ -1,6 +1,6 @@
-use Rattle.std.proofs.Common.{◌≡◌, ◌+◌, ◌*◌, ◌-◌, ◌<◌, ◌∙◌, true, refl, sym, ap, subst, arith, lit<}
+use Rattle.std.proofs.Common.{arith, lit<}
 use Rattle.pm3_core.specs.declared.naming.TheConstants.{BASE}
-use Rattle.pm3_types.specs.Layout.{begins_at, word_in}
+use Rattle.pm3_types.specs.Layout.{word_in}
 use Rattle.pm3_copy.specs.References.{RefersIn, ObjectsOn}
 use Rattle.pm3_copy.proofs.References.{objects_none, objects_more, objects_all}
 use Rattle.pm3_copy.proofs.Wholes.{address_of, page_is, below_page, whole_at}

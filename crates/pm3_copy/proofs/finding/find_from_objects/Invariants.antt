@@ -1,4 +1,4 @@
-use Rattle.std.proofs.Common.{◌+◌, ◌*◌, ◌-◌, ◌≡◌}
+use Rattle.std.proofs.Common.{◌+◌, ◌*◌, ◌-◌}
 use Rattle.pm3_core.specs.declared.naming.TheConstants.{BASE}
 use Rattle.pm3_types.specs.Layout.{word_in}
 use Rattle.pm3_copy.specs.Finds.{Adds}

@@ -1,5 +1,4 @@
-use Rattle.std.proofs.Common.{◌≡◌, ◌+◌, ◌<◌, ◌≤◌, ◌∙◌, ℕ, true, slice_index, refl, sym, ap, subst, arith}
-use Rattle.pm3_types.specs.Layout.{PageImage}
+use Rattle.std.proofs.Common.{◌≡◌, ◌+◌, ◌∙◌, ℕ, true, slice_index, refl, sym, subst, arith}
 use Rattle.pm3_copy.specs.Finds.{Adds}
 use Rattle.pm3_copy.specs.References.{RootsOn}
 use Rattle.pm3_copy.proofs.Adding.{adds_as}

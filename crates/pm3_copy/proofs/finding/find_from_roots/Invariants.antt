@@ -1,4 +1,4 @@
-use Rattle.std.proofs.Common.{◌+◌, ◌<◌, ◌≡◌, true, slice_index}
+use Rattle.std.proofs.Common.{◌+◌, ◌≡◌, true, slice_index}
 use Rattle.pm3_copy.specs.Finds.{Adds}
 use Rattle.pm3_copy.proofs.References.{LeadsBelow}
 use Rattle.pm3_copy.proofs.finding.find_from_roots.Given as goal

@@ -1,4 +1,4 @@
-use Rattle.std.proofs.Common.{ℕ, ◌-◌, ◌≤◌, ◌≡◌}
+use Rattle.std.proofs.Common.{◌-◌, ◌≤◌, ◌≡◌}
 use Rattle.std.specs.FinSet as set
 use Rattle.pm3_core.specs.declared.naming.TheConstants.{BASE}
 use Rattle.pm3_types.specs.Layout.{page_in}

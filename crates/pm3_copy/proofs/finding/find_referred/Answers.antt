@@ -1,8 +1,7 @@
-use Rattle.std.proofs.Common.{◌≡◌, ◌+◌, ◌-◌, ◌≤◌, ◌∙◌, Some, ap, sym, subst, arith}
+use Rattle.std.proofs.Common.{◌≡◌, ◌+◌, Some, arith}
 use Rattle.pm3_core.specs.declared.naming.TheConstants.{BASE}
 use Rattle.pm3_types.specs.Layout.{word_in, size_at}
-use Rattle.pm3_copy.proofs.References.{places_more, places_all, RefersBelow}
-use Rattle.pm3_copy.specs.Finds.{Adds}
+use Rattle.pm3_copy.proofs.References.{places_more, places_all}
 use Rattle.pm3_copy.proofs.finding.find_referred.Goals as goal
 
 pub loop-place-preserved : goal.loop-place-preserved

@@ -1,5 +1,4 @@
-use Rattle.std.proofs.Common.{◌≡◌, ◌<◌, ◌≤◌, ◌+◌, ℕ, List, [], sym, subst, ap, arith}
-use Rattle.std.specs.List.{Contains}
+use Rattle.std.proofs.Common.{sym, subst, arith}
 use Rattle.pm3_core.specs.declared.naming.TheConstants.{BASE}
 use Rattle.pm3_copy.proofs.Picking.{ArePicked, picked_none, picked_more, picked_all}
 use Rattle.pm3_copy.proofs.movers.movers.Goals as goal

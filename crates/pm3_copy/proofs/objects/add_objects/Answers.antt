@@ -1,4 +1,4 @@
-use Rattle.std.proofs.Common.{◌<◌, ◌+◌, ◌*◌, ◌-◌, ◌≡◌, arith, lit<}
+use Rattle.std.proofs.Common.{arith, lit<}
 use Rattle.pm3_core.specs.declared.naming.TheConstants.{BASE}
 use Rattle.pm3_copy.proofs.Collecting.{added_none, added_more}
 use Rattle.pm3_copy.proofs.Wholes.{address_of, page_is, below_page}

@@ -1,4 +1,4 @@
-use Rattle.std.proofs.Common.{◌≤◌, ◌+◌, ◌≡◌, subst, sym, arith}
+use Rattle.std.proofs.Common.{subst, sym, arith}
 use Rattle.pm3_core.specs.declared.naming.TheConstants.{BASE}
 use Rattle.pm3_copy.proofs.Collecting.{AreBelow, below_none, below_more, below_all}
 use Rattle.pm3_copy.proofs.objects.objects_of.Goals as goal

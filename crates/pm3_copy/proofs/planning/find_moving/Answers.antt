@@ -1,10 +1,9 @@
-use Rattle.std.proofs.Common.{◌≡◌, ◌∙◌, ℕ, List, [], ap, sym, subst}
+use Rattle.std.proofs.Common.{◌∙◌, ℕ, List, ap, subst}
 use Rattle.std.specs.List.{Contains}
 use Rattle.pm3_core.specs.declared.naming.TheConstants.{BASE}
 use Rattle.pm3_types.specs.PassMoves.{IsListOf}
-use Rattle.pm3_copy.specs.Finds.{Finds, AreFound}
-use Rattle.pm3_copy.specs.Spreading.{AreOnPages, Picks, before_of}
-use Rattle.pm3_copy.specs.Whole.{IsObjectOf}
+use Rattle.pm3_copy.specs.Finds.{Finds}
+use Rattle.pm3_copy.specs.Spreading.{Picks}
 use Rattle.pm3_copy.proofs.PlanParts.{on_pages, promoted_movers, kept_movers}
 use Rattle.pm3_copy.proofs.planning.find_moving.Goals as goal
 

@@ -1,11 +1,9 @@
-use Rattle.std.proofs.Common.{◌≡◌, ◌≤◌, ◌<◌, ◌+◌, ◌^◌, ◌↔◌, ◌∙◌, ℕ, Bool, List, length, true, false, ap, sym, subst, arith, rules}
-use Rattle.std.specs.FinMap as map
+use Rattle.std.proofs.Common.{◌≡◌, ◌↔◌, ◌∙◌, ℕ, Bool, List, length, true, false, ap, sym, subst, arith, rules}
 use Rattle.std.specs.FinSet as set
 use Rattle.std.specs.List.{All}
 use Rattle.pm3_core.specs.declared.naming.TheConstants.{BASE}
-use Rattle.pm3_types.specs.PassMoves.{AreMovers, sizes, pages_wanted}
+use Rattle.pm3_types.specs.PassMoves.{sizes, pages_wanted}
 use Rattle.pm3_page.specs.PageSheets.{sheets_of}
-use Rattle.pm3_copy.specs.Spreading.{before_of}
 use Rattle.pm3_copy.specs.Whole.{IsObjectOf}
 use Rattle.pm3_copy.proofs.PlanParts.{few, sizes_within, promoted_objects, kept_objects, all_of, same_pages}
 use Rattle.pm3_copy.proofs.Settling.{wanted_bound}
@@ -20,7 +18,7 @@ pages_for-persistent-requires-clause-objects c =
 pub pages_for-persistent-requires-clause-few : goal.pages_for-persistent-requires-clause-few
 pages_for-persistent-requires-clause-few c =
     let most = few c.args.catalog.now BASE c.args.volatile.now.images c.requires.volatile c.in_ok-promoted.field-0.promoted.items c.in_ok-promoted.ensures.promoted.rising
-        (promoted_objects c.args.catalog.now BASE c.args.volatile.now.images c.args.written.now.images c.args.pinned.now c.requires.volatile c.in_ok-promoted.field-0.promoted.items c.in_ok-promoted.ensures.promoted) in
+    (promoted_objects c.args.catalog.now BASE c.args.volatile.now.images c.args.written.now.images c.args.pinned.now c.requires.volatile c.in_ok-promoted.field-0.promoted.items c.in_ok-promoted.ensures.promoted) in
     let same = ap (λ (xs : List ℕ). length xs) c.deref.ensures.value in
     omega (arith, most, same)
 
@@ -33,16 +31,16 @@ pages_for-staying-requires-clause-objects c =
 pub pages_for-staying-requires-clause-few : goal.pages_for-staying-requires-clause-few
 pages_for-staying-requires-clause-few c =
     let most = few c.args.catalog.now BASE c.args.volatile.now.images c.requires.volatile c.in_ok-promoted.field-0.kept.items c.in_ok-promoted.ensures.kept.rising
-        (kept_objects c.args.catalog.now BASE c.args.volatile.now.images c.args.written.now.images c.args.pinned.now c.requires.volatile c.in_ok-promoted.field-0.kept.items c.in_ok-promoted.ensures.kept) in
+    (kept_objects c.args.catalog.now BASE c.args.volatile.now.images c.args.written.now.images c.args.pinned.now c.requires.volatile c.in_ok-promoted.field-0.kept.items c.in_ok-promoted.ensures.kept) in
     let same = ap (λ (xs : List ℕ). length xs) c.deref-2.ensures.value in
     omega (arith, most, same)
 
 pub overflow_cast-result : goal.overflow_cast-result
 overflow_cast-result c =
     let first = few c.args.catalog.now BASE c.args.volatile.now.images c.requires.volatile c.in_ok-promoted.field-0.promoted.items c.in_ok-promoted.ensures.promoted.rising
-        (promoted_objects c.args.catalog.now BASE c.args.volatile.now.images c.args.written.now.images c.args.pinned.now c.requires.volatile c.in_ok-promoted.field-0.promoted.items c.in_ok-promoted.ensures.promoted) in
+    (promoted_objects c.args.catalog.now BASE c.args.volatile.now.images c.args.written.now.images c.args.pinned.now c.requires.volatile c.in_ok-promoted.field-0.promoted.items c.in_ok-promoted.ensures.promoted) in
     let second = few c.args.catalog.now BASE c.args.volatile.now.images c.requires.volatile c.in_ok-promoted.field-0.kept.items c.in_ok-promoted.ensures.kept.rising
-        (kept_objects c.args.catalog.now BASE c.args.volatile.now.images c.args.written.now.images c.args.pinned.now c.requires.volatile c.in_ok-promoted.field-0.kept.items c.in_ok-promoted.ensures.kept) in
+    (kept_objects c.args.catalog.now BASE c.args.volatile.now.images c.args.written.now.images c.args.pinned.now c.requires.volatile c.in_ok-promoted.field-0.kept.items c.in_ok-promoted.ensures.kept) in
     let a : c.len-2.result ≡ length c.in_ok-promoted.field-0.promoted.items = search rules in
     let b : c.len-3.result ≡ length c.in_ok-promoted.field-0.kept.items = search rules in
     omega (arith, first, second, a, b)
@@ -54,11 +52,11 @@ returns c =
     let a : c.len-2.result ≡ length c.in_ok-promoted.field-0.promoted.items = search rules in
     let b : c.len-3.result ≡ length c.in_ok-promoted.field-0.kept.items = search rules in
     let bound = wanted_bound (sizes c.args.catalog.now BASE (sheets_of c.args.volatile.now.images) c.in_ok-promoted.field-0.promoted.items)
-        (sizes_within c.args.catalog.now BASE c.args.volatile.now.images c.requires.volatile c.in_ok-promoted.field-0.promoted.items
-        (promoted_objects c.args.catalog.now BASE c.args.volatile.now.images c.args.written.now.images c.args.pinned.now c.requires.volatile c.in_ok-promoted.field-0.promoted.items c.in_ok-promoted.ensures.promoted)) in
+    (sizes_within c.args.catalog.now BASE c.args.volatile.now.images c.requires.volatile c.in_ok-promoted.field-0.promoted.items
+    (promoted_objects c.args.catalog.now BASE c.args.volatile.now.images c.args.written.now.images c.args.pinned.now c.requires.volatile c.in_ok-promoted.field-0.promoted.items c.in_ok-promoted.ensures.promoted)) in
     let bound_staying = wanted_bound (sizes c.args.catalog.now BASE (sheets_of c.args.volatile.now.images) c.in_ok-promoted.field-0.kept.items)
-        (sizes_within c.args.catalog.now BASE c.args.volatile.now.images c.requires.volatile c.in_ok-promoted.field-0.kept.items
-        (kept_objects c.args.catalog.now BASE c.args.volatile.now.images c.args.written.now.images c.args.pinned.now c.requires.volatile c.in_ok-promoted.field-0.kept.items c.in_ok-promoted.ensures.kept)) in
+    (sizes_within c.args.catalog.now BASE c.args.volatile.now.images c.requires.volatile c.in_ok-promoted.field-0.kept.items
+    (kept_objects c.args.catalog.now BASE c.args.volatile.now.images c.args.written.now.images c.args.pinned.now c.requires.volatile c.in_ok-promoted.field-0.kept.items c.in_ok-promoted.ensures.kept)) in
     record {
       promoted = c.in_ok-promoted.ensures.promoted;
       kept = c.in_ok-promoted.ensures.kept;

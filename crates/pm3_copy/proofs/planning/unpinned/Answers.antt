@@ -1,4 +1,4 @@
-use Rattle.std.proofs.Common.{◌≤◌, ◌+◌, ◌≡◌, sym, subst, arith}
+use Rattle.std.proofs.Common.{sym, subst, arith}
 use Rattle.std.specs.FinMap as map
 use Rattle.pm3_copy.proofs.Freeing.{AreFreed, freed_none, freed_more, freed_all}
 use Rattle.pm3_copy.proofs.planning.unpinned.Goals as goal

@@ -3,9 +3,8 @@ use Rattle.std.specs.FinMap as map
 use Rattle.std.specs.FinSet as set
 use Rattle.pm3_core.specs.declared.naming.TheConstants.{BASE}
 use Rattle.pm3_types.specs.Layout.{page_in, begins_at}
-use Rattle.pm3_page.specs.PageMap.{Images}
 use Rattle.pm3_copy.specs.Finds.{Adds}
-use Rattle.pm3_copy.specs.Spreading.{LeadsTo, TurnsPage}
+use Rattle.pm3_copy.specs.Spreading.{TurnsPage}
 use Rattle.pm3_copy.proofs.Turning.{brought, whole_after}
 use Rattle.pm3_copy.proofs.Adding.{adds_keeps}
 use Rattle.pm3_copy.proofs.Wholes.{whole_at, object_of, object_begins, page_is}

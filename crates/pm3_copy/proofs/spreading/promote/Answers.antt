@@ -1,5 +1,4 @@
-use Rattle.std.proofs.Common.{◌≡◌, ◌<◌, ◌≤◌, ℕ, [], List, length, get_or, refl, sym, subst, ap, arith}
-use Rattle.std.specs.FinSet as set
+use Rattle.std.proofs.Common.{◌<◌, ℕ, [], List, length, get_or, refl, sym, subst, arith}
 use Rattle.std.specs.List.{Contains}
 use Rattle.std.proofs.lemmas.List.Elements.{Contains-get_or}
 use Rattle.pm3_core.specs.declared.naming.TheConstants.{BASE}
@@ -14,7 +13,7 @@ use Rattle.pm3_copy.proofs.Turning.{IsPromoting, promoting_none, promoting_more,
 use Rattle.pm3_copy.proofs.spreading.promote.Goals as goal
 
 nothing_in : (a : ℕ) → Contains [] a → ⊥
-nothing_in a (k , low , is) = absurd (omega arith)
+nothing_in a (k, low, is) = absurd (omega arith)
 
 pub loop-next-init : goal.loop-next-init
 loop-next-init c =

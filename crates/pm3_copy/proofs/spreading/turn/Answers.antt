@@ -1,8 +1,7 @@
-use Rattle.std.proofs.Common.{◌≡◌, true, false, sym, subst, rules}
+use Rattle.std.proofs.Common.{◌≡◌, true, sym, subst, rules}
 use Rattle.std.specs.FinSet as set
-use Rattle.std.proofs.lemmas.Bool.{cases_Bool, false≢true}
 use Rattle.pm3_copy.specs.Spreading.{TurnsPage}
-use Rattle.pm3_copy.proofs.Turning.{turned_now, not_turned}
+use Rattle.pm3_copy.proofs.Turning.{turned_now}
 use Rattle.pm3_copy.proofs.spreading.turn.Goals as goal
 
 pub returns-clause-turned : goal.returns-clause-turned

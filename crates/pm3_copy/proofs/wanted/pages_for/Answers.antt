@@ -1,6 +1,6 @@
-use Rattle.std.proofs.Common.{◌≡◌, ◌<◌, ◌≤◌, ◌+◌, ◌∷◌, ◌∙◌, ℕ, List, [], length, map, drop, get_or, refl, sym, ap, subst, arith}
+use Rattle.std.proofs.Common.{◌≡◌, ◌+◌, ◌∷◌, ◌∙◌, ℕ, List, [], map, drop, get_or, sym, ap, arith}
 use Rattle.pm3_core.specs.declared.naming.TheConstants.{BASE}
-use Rattle.pm3_types.specs.PassMoves.{sizes, size_from, pages_behind, pages_wanted}
+use Rattle.pm3_types.specs.PassMoves.{size_from, pages_behind, pages_wanted}
 use Rattle.pm3_page.specs.PageSheets.{sheets_of}
 use Rattle.pm3_copy.proofs.Settling.{count_here, count_next, drop_sizes, drop_past}
 use Rattle.pm3_copy.proofs.wanted.pages_for.Goals as goal

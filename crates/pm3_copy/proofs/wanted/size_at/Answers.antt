@@ -1,10 +1,8 @@
-use Rattle.std.proofs.Common.{◌≡◌, ◌≤◌, ◌∙◌, ℕ, Option, Some, refl, ap, sym, subst, arith}
+use Rattle.std.proofs.Common.{◌≡◌, ◌∙◌, Option, Some, refl, ap, sym, arith}
 use Rattle.std.specs.FinMap as map
 use Rattle.pm3_core.specs.declared.naming.TheConstants.{BASE}
 use Rattle.pm3_types.specs.Layout.{Sheet, page_in, word_in}
 use Rattle.pm3_types.specs.PassMoves.{size_on}
-use Rattle.pm3_page.specs.PageSheets.{sheets_of}
-use Rattle.pm3_copy.specs.Whole.{IsWhole}
 use Rattle.pm3_copy.proofs.Wholes.{whole_at, object_begins, sheet_on}
 use Rattle.pm3_copy.proofs.wanted.size_at.Goals as goal
 

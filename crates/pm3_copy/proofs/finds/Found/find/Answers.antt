@@ -1,10 +1,9 @@
-use Rattle.std.proofs.Common.{◌≡◌, ◌∙◌, ℕ, List, get_or, Ok, sym, ap, subst}
+use Rattle.std.proofs.Common.{◌≡◌, ◌∙◌, get_or, sym, subst}
 use Rattle.std.specs.List.{Contains}
 use Rattle.std.specs.List.Sorted.{IsBinarySearchResult}
 use Rattle.std.specs.Ordering.{nat_cmp}
 use Rattle.pm3_copy.proofs.Adding.{adds_none, adds_as}
 use Rattle.pm3_copy.proofs.Searching.{hit, miss}
-use Rattle.pm3_copy.specs.Finds.{Finds, Adds}
 use Rattle.pm3_copy.proofs.finds.Found.find.Goals as goal
 
 pub returns-in-Ok : goal.returns-in-Ok

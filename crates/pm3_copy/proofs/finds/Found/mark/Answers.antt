@@ -1,8 +1,7 @@
-use Rattle.std.proofs.Common.{◌≡◌, ◌<◌, ◌≤◌, ◌∙◌, get_or, set, length, true, false, List, ◌++◌, [], ◌∷◌, refl, sym, ap, subst, arith, rules, length-set}
+use Rattle.std.proofs.Common.{◌≡◌, ◌<◌, ◌∙◌, get_or, set, length, true, false, ◌++◌, [], ◌∷◌, sym, ap, subst, arith, rules, length-set}
 use Rattle.std.proofs.lemmas.List.{get_or_default}
-use Rattle.std.specs.Vec.{vec_capacity}
-use Rattle.pm3_copy.specs.Finds.{Finds, AreMarked, Adds}
-use Rattle.pm3_copy.proofs.Marking.{room, marked_more, adds_more, adds_same}
+use Rattle.pm3_copy.specs.Finds.{AreMarked}
+use Rattle.pm3_copy.proofs.Marking.{room, marked_more, adds_more}
 use Rattle.pm3_copy.proofs.finds.Found.mark.Goals as goal
 
 pub unreachable-requires : goal.unreachable-requires
