@@ -229,3 +229,14 @@ fn a_closed_journal_has_no_records(rt: HostRuntime) -> Result<(), Fail> {
     assert_eq!(rt; append(&rt, &mut journal, &no_pages(alloc))?.seq, 9);
     Ok(())
 }
+
+#[test]
+fn the_last_marks_and_the_next_number_are_told(rt: HostRuntime) -> Result<(), Fail> {
+    let alloc = rt.alloc();
+    let mut journal = recovered(alloc, new_device(alloc, 64)?)?;
+    assert!(rt; journal.entries().last().is_none());
+    append(&rt, &mut journal, &two_pages(alloc)?)?;
+    assert!(rt; journal.entries().last() == Some((3, 5)));
+    assert_eq!(rt; journal.next(), 2);
+    Ok(())
+}
