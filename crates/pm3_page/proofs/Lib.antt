@@ -16,4 +16,4 @@ mod ReferencePairs
 mod FileForms
 mod Faulty
 mod SameBits
-mod SheetsOf
+pub mod SheetsOf
