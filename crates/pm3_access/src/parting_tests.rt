@@ -236,13 +236,18 @@ fn a_page_that_was_written_is_as_it_was_found_after_undo(rt: HostRuntime) -> Res
     Ok(())
 }
 
+/// A commit of page 4, which was written.
+fn committed(alloc: Global) -> Result<Undone, Fail> {
+    finish(part(written_page(alloc)?)?, alloc, 7)
+}
+
 #[test]
 fn a_page_that_was_written_is_as_it_is_now_after_a_commit(rt: HostRuntime) -> Result<(), Fail> {
     let Undone {
         pages,
         written,
         space: _,
-    } = finish(part(written_page(rt.alloc())?)?, rt.alloc(), 7)?;
+    } = committed(rt.alloc())?;
     assert_eq!(rt; first_field(written.get(4))?, 7);
     assert!(rt; pages.is_empty());
     Ok(())
