@@ -1,0 +1,13 @@
+use Rattle.pm3_table.proofs.Put as p1
+use Rattle.pm3_table.proofs.Advances as p2
+use Rattle.pm3_table.proofs.Totals as p3
+use Rattle.pm3_table.proofs.Has as p4
+use Rattle.pm3_table.proofs.RowsKept as p5
+use Rattle.pm3_table.proofs.UnitsKept as p6
+use Rattle.pm3_table.proofs.PagesKept as p7
+use Rattle.pm3_table.proofs.SettlesKept as p8
+use Rattle.std.proofs.Common.{rules}
+use Rattle.pm3_table.proofs.probe.look_at.Goals as goal
+
+pub returns : goal.returns
+returns c = search rules

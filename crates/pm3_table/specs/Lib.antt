@@ -1,0 +1,17 @@
+pub mod Entries
+pub mod Histories
+pub mod Deeds
+pub mod Words
+pub mod Crew
+pub mod Rows
+pub mod Holds
+pub mod Units
+pub mod Pages
+pub mod Draws
+pub mod Names
+pub mod Counts
+pub mod Lost
+pub mod Lasts
+pub mod Telling
+pub mod Rule
+pub mod Starting
