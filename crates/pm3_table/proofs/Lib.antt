@@ -6,3 +6,9 @@ pub mod RowsKept
 pub mod UnitsKept
 pub mod PagesKept
 pub mod SettlesKept
+pub mod DrawsKept
+pub mod NamesKept
+pub mod Encoded
+pub mod RowSteps
+pub mod LostKept
+pub mod UnitSteps

@@ -24,7 +24,7 @@ use Rattle.pm3_table.proofs.Has.{has_one}
 abbrev pub page_with : List Hold → List Span → List ℕ → List ℕ → PageView
 page_with holds spans steady pages = record { live = true; holds = holds; spans = spans; steady = steady; pages = pages }
 
-yes_or_no : (b : Bool) → (b ≡ true) ⊎ (b ≡ false)
+pub yes_or_no : (b : Bool) → (b ≡ true) ⊎ (b ≡ false)
 yes_or_no true = inl refl
 yes_or_no false = inr refl
 

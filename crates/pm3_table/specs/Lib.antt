@@ -15,3 +15,4 @@ pub mod Lasts
 pub mod Telling
 pub mod Rule
 pub mod Starting
+pub mod Ops

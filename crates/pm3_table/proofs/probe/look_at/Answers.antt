@@ -6,6 +6,12 @@ use Rattle.pm3_table.proofs.RowsKept as p5
 use Rattle.pm3_table.proofs.UnitsKept as p6
 use Rattle.pm3_table.proofs.PagesKept as p7
 use Rattle.pm3_table.proofs.SettlesKept as p8
+use Rattle.pm3_table.proofs.DrawsKept as p9
+use Rattle.pm3_table.proofs.NamesKept as p10
+use Rattle.pm3_table.proofs.Encoded as p11
+use Rattle.pm3_table.proofs.RowSteps as p12
+use Rattle.pm3_table.proofs.LostKept as p13
+use Rattle.pm3_table.proofs.UnitSteps as p14
 use Rattle.std.proofs.Common.{rules}
 use Rattle.pm3_table.proofs.probe.look_at.Goals as goal
 
