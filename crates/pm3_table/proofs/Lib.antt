@@ -12,3 +12,6 @@ pub mod Encoded
 pub mod RowSteps
 pub mod LostKept
 pub mod UnitSteps
+pub mod TurnSteps
+pub mod DrawSteps
+pub mod Settling

@@ -48,7 +48,7 @@ may_mark pages k p m a b c = grind (arith, nat_tests, a, b, c)
 may_validate : (pages k place : ℕ) (m : Machine) → k < 32 → place < ROW_PLACES → admits pages m (Validate k place) ≡ true
 may_validate pages k place m a b = grind (arith, nat_tests, a, b)
 
-may_unmark : (pages k p : ℕ) (m : Machine) → k < 32 → p < pages → m.mark p ≡ k + 1 → admits pages m (Unmark k p) ≡ true
+pub may_unmark : (pages k p : ℕ) (m : Machine) → k < 32 → p < pages → m.mark p ≡ k + 1 → admits pages m (Unmark k p) ≡ true
 may_unmark pages k p m a b c = grind (arith, nat_tests, a, b, c)
 
 pub equal_by : (a b : ℕ) → (a == b) ≡ true → a ≡ b

@@ -233,7 +233,7 @@ module _ (pages : ℕ) (m : Machine) (crew : ℕ → RowView) where
         idle = r.idle;
       }
 
-  moves_part : (done : List Event) → RowsRule pages done m crew → (k : ℕ) → k < ROWS → (ps : List ℕ)
+  pub moves_part : (done : List Event) → RowsRule pages done m crew → (k : ℕ) → k < ROWS → (ps : List ℕ)
       → ((p : ℕ) → is_in p ps ≡ true → (p < pages) × Cleared m k p) → RowsRule pages (done ++ moves_from k ps) m crew
   moves_part done r k row [] each = subst (λ l. RowsRule pages l m crew) (sym (append_none done [] refl)) r
   moves_part done r k row (p ∷ ps) each =

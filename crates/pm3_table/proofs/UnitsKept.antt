@@ -202,3 +202,44 @@ module _ {S : Type 0} (good : List Done → ℕ → S → Type 0) (count : S →
                   λ live. let live_was : (crew j).live ≡ true = dite (ℕ_discrete j k) (λ e. ap (λ (n : ℕ). (crew n).live) e ∙ alive) (λ o. ap (λ (y : UnitView). y.live) (sym (put_else crew k w j o)) ∙ live) in
                   let a : (crew j).faults ≤ (crew i).faults = r.heard_out i is j live_was in omega (arith, a, same i, same j));
         }
+
+    -- k holds the unit u, which is at home and which no commit names
+    pub holds_part : (u : ℕ) → u < turn → holder u ≡ 0 → NoneHas names history u
+        → Rule (put holder u (k + 1)) history (set homes u none) (put crew k (unit_with (Took u ∷ (crew k).holds) (crew k).seen (crew k).faults))
+    holds_part u below free spare =
+        let w : UnitView = unit_with (Took u ∷ (crew k).holds) (crew k).seen (crew k).faults in
+        let inside : u < length homes = omega (arith, r.deep, below) in
+        let know = r.known k alive in
+        let apart : turn ≢ u = λ e. omega (arith, e, below) in
+        let same : (j : ℕ) → (put crew k w j).faults ≡ (crew j).faults = λ j. put_cases (λ v. v.faults ≡ (crew j).faults) crew k w j (λ here. ap (λ (n : ℕ). (crew n).faults) (sym here)) (λ _. refl) in
+        let seen : (j : ℕ) → (put crew k w j).seen ≡ (crew j).seen = λ j. put_cases (λ v. v.seen ≡ (crew j).seen) crew k w j (λ here. ap (λ (n : ℕ). (crew n).seen) (sym here)) (λ _. refl) in
+        let was : (j : ℕ) → (put crew k w j).live ≡ true → (crew j).live ≡ true = λ j. put_cases (λ v. v.live ≡ true → (crew j).live ≡ true) crew k w j (λ here _. ap (λ (n : ℕ). (crew n).live) here ∙ alive) (λ _ x. x) in
+        record {
+          deep = length-set homes u none ∙ r.deep;
+          home = λ i low. put_cases (λ h. h ≡ 0 → (y : S) × (get_elem? (set homes u none) i ≡ some (some y)) × good history i y) holder u (k + 1) i
+              (λ here zero_is. absurd (omega arith))
+              (λ other zero_is. let h = r.home i low zero_is in (h.0, set_else homes u i none other ∙ h.1, h.2));
+          out = λ i low. put_cases (λ h. h ≢ 0 → get_elem? (set homes u none) i ≡ some none) holder u (k + 1) i
+              (λ here taken. ap (get_elem? (set homes u none)) here ∙ set_here homes u none inside)
+              (λ other taken. set_else homes u i none other ∙ r.out i low taken);
+          held = λ i. put_cases (λ h. h ≢ 0 → (i < turn + 1) × ((j : ℕ) × (h ≡ j + 1) × ((put crew k w j).live ≡ true))) holder u (k + 1) i
+              (λ here taken. (omega (arith, here, below), (k, refl, put_cases (λ y. y.live ≡ true) crew k w k (λ _. refl) (λ o. absurd (o refl)))))
+              (λ other taken. let h = r.held i taken in (h.0, (h.1.0, h.1.1, lives_on w refl h.1.0 h.1.2)));
+          known = λ j. put_cases (λ v. v.live ≡ true → KnowsUnits names history (put holder u (k + 1)) j v) crew k w j
+              (λ here live. subst (λ (n : ℕ). KnowsUnits names history (put holder u (k + 1)) n w) (sym here) (record {
+                  holds = λ i. put_cases (λ x. x ≡ (put holder u (k + 1) i == k + 1)) (holds_of (crew k).holds) u true i
+                      (λ at. let now : put holder u (k + 1) i ≡ k + 1 = put_at holder u (k + 1) i at in grind (arith, nat_tests, now))
+                      (λ other. know.holds i ∙ ap (λ (x : ℕ). x == k + 1) (sym (put_else holder u (k + 1) i other)));
+                  after = know.after;
+                  is = know.is;
+                  apart = λ i. put_cases (λ x. x ≡ k + 1 → NoneHas names know.after i) holder u (k + 1) i
+                      (λ at _. none_right names (crew k).seen know.after i (ap (λ (h : List Done). some_has names h i) (sym know.is) ∙ (ap (some_has names history) at ∙ spare)))
+                      (λ other mine. know.apart i mine);
+                }))
+              (λ other live. subst (λ (l : List Done). KnowsUnits names l (put holder u (k + 1)) j (crew j)) (append_nothing history)
+                  (others_know names history [] holder j u (k + 1) (crew j) (λ e. omega (arith, e, free)) (λ e. other (omega (arith, e))) (λ _ _. refl) (r.known j live)));
+          turn_sees = λ j is. r.turn_sees j (sym (put_else holder u (k + 1) turn apart) ∙ is) ∙ sym (seen j);
+          one_sees = (r.one_sees.0, lives_on w refl r.one_sees.0 r.one_sees.1, r.one_sees.2 ∙ sym (seen r.one_sees.0));
+          heard = λ y home j live. subst (λ (n : ℕ). n ≤ count y) (sym (same j)) (r.heard y (sym (set_else homes u turn none apart) ∙ home) j (was j live));
+          heard_out = λ i is j live. let a = r.heard_out i (sym (put_else holder u (k + 1) turn apart) ∙ is) j (was j live) in omega (arith, a, same i, same j);
+        }

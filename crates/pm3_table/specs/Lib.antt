@@ -16,3 +16,4 @@ pub mod Telling
 pub mod Rule
 pub mod Starting
 pub mod Ops
+pub mod Settles

@@ -12,6 +12,9 @@ use Rattle.pm3_table.proofs.Encoded as p11
 use Rattle.pm3_table.proofs.RowSteps as p12
 use Rattle.pm3_table.proofs.LostKept as p13
 use Rattle.pm3_table.proofs.UnitSteps as p14
+use Rattle.pm3_table.proofs.TurnSteps as p15
+use Rattle.pm3_table.proofs.DrawSteps as p16
+use Rattle.pm3_table.proofs.Settling as p17
 use Rattle.std.proofs.Common.{rules}
 use Rattle.pm3_table.proofs.probe.look_at.Goals as goal
 
