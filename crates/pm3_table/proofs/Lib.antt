@@ -15,3 +15,4 @@ pub mod UnitSteps
 pub mod TurnSteps
 pub mod DrawSteps
 pub mod Settling
+pub mod Enters

@@ -17,3 +17,4 @@ pub mod Rule
 pub mod Starting
 pub mod Ops
 pub mod Settles
+pub mod Seats

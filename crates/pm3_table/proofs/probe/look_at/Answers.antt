@@ -15,6 +15,8 @@ use Rattle.pm3_table.proofs.UnitSteps as p14
 use Rattle.pm3_table.proofs.TurnSteps as p15
 use Rattle.pm3_table.proofs.DrawSteps as p16
 use Rattle.pm3_table.proofs.Settling as p17
+use Rattle.pm3_table.proofs.Enters as p18
+use Rattle.pm3_table.specs.Seats as p19
 use Rattle.std.proofs.Common.{rules}
 use Rattle.pm3_table.proofs.probe.look_at.Goals as goal
 
