@@ -41,10 +41,10 @@ later_in x n xs is = grind (arith, nat_tests, is)
 not_first_in : (x n : ℕ) (xs : List ℕ) → x ≢ n → is_in x (n ∷ xs) ≡ true → is_in x xs ≡ true
 not_first_in x n xs o is = grind (arith, nat_tests, o, is)
 
-same_test : (n x : ℕ) → n ≡ x → (n == x) ≡ true
+pub same_test : (n x : ℕ) → n ≡ x → (n == x) ≡ true
 same_test n x e = grind (arith, nat_tests, e)
 
-is_same : (n x : ℕ) → (n == x) ≡ true → n ≡ x
+pub is_same : (n x : ℕ) → (n == x) ≡ true → n ≡ x
 is_same n x e = grind (arith, nat_tests, e)
 
 or_false : (a b : Bool) → b ≡ false → (a || b) ≡ true → a ≡ true

@@ -16,3 +16,4 @@ pub mod TurnSteps
 pub mod DrawSteps
 pub mod Settling
 pub mod Enters
+pub mod Absorbs

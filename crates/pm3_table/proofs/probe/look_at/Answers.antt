@@ -17,6 +17,7 @@ use Rattle.pm3_table.proofs.DrawSteps as p16
 use Rattle.pm3_table.proofs.Settling as p17
 use Rattle.pm3_table.proofs.Enters as p18
 use Rattle.pm3_table.specs.Seats as p19
+use Rattle.pm3_table.proofs.Absorbs as p20
 use Rattle.std.proofs.Common.{rules}
 use Rattle.pm3_table.proofs.probe.look_at.Goals as goal
 
