@@ -17,3 +17,6 @@ pub mod DrawSteps
 pub mod Settling
 pub mod Enters
 pub mod Absorbs
+pub mod CountsAbsorb
+pub mod SeatSteps
+pub mod Opens

@@ -18,3 +18,4 @@ pub mod Starting
 pub mod Ops
 pub mod Settles
 pub mod Seats
+pub mod FirstHomes

@@ -18,6 +18,9 @@ use Rattle.pm3_table.proofs.Settling as p17
 use Rattle.pm3_table.proofs.Enters as p18
 use Rattle.pm3_table.specs.Seats as p19
 use Rattle.pm3_table.proofs.Absorbs as p20
+use Rattle.pm3_table.proofs.CountsAbsorb as p21
+use Rattle.pm3_table.proofs.SeatSteps as p22
+use Rattle.pm3_table.proofs.Opens as p23
 use Rattle.std.proofs.Common.{rules}
 use Rattle.pm3_table.proofs.probe.look_at.Goals as goal
 
