@@ -178,6 +178,15 @@ module _ {V : Type 0} (stands : Told → List Done → List Done → ℕ → V �
         (same_names (r.counter 1) w l.1 refl refl (omega arith))
         (same_counts (min (r.counter 2) 32) w l.1 refl refl refl)
 
+    -- a load that tells nothing
+    pub stays_same : (i : ℕ) → Rule record { words = set s.words i (get_or s.words i 0); homes = s.homes; views = set s.views id v }
+    stays_same i = draw_step (set s.words i (get_or s.words i 0)) r.counter v l.1 refl refl refl refl refl
+        (encode_same told.pages r.machine.word r.holder r.machine.mark r.space r.counter s.words r.words i)
+        (same_pages (r.counter 0) v l.1 refl refl (omega arith))
+        (unchanged s.views r.crew r.seated id v v l l.1 refl draw_view (DrawsRule (limit told) (first told) r.counter) refl r.draws)
+        (same_names (r.counter 1) v l.1 refl refl (omega arith))
+        (same_counts (min (r.counter 2) 32) v l.1 refl refl refl)
+
     -- a look at the word of a page that the view knows to be used, and that shows no space
     pub looks : (frame : (lost h : List Done) (e : Done) (u : ℕ) (x : V) → names told e u ≡ false → stands told lost h u x → stands told lost (h ++ e ∷ []) u x)
         → (alike : (lost more h : List Done) (u : ℕ) (x : V) → u ≢ turn_unit told.pages → stands told lost h u x → stands told more h u x)

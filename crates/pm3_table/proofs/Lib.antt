@@ -20,3 +20,5 @@ pub mod Absorbs
 pub mod CountsAbsorb
 pub mod SeatSteps
 pub mod Opens
+pub mod RowCalls
+pub mod DrawCalls

@@ -19,3 +19,6 @@ pub mod Ops
 pub mod Settles
 pub mod Seats
 pub mod FirstHomes
+pub mod Carried
+pub mod Passes
+pub mod Plays

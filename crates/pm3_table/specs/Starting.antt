@@ -1,5 +1,6 @@
 -- The start of a table.
-use Rattle.std.specs.Prelude.{◌≡◌, ℕ, Bool, true, false, List, []}
+use Rattle.std.specs.Prelude.{◌≡◌, ℕ, Bool, true, false, List, [], None}
+use Rattle.std.specs.FinMap.{empty}
 use Rattle.pm3_history.specs.Opens.{Origin}
 use Rattle.pm3_table.specs.declared.view.Told.{Told}
 use Rattle.pm3_table.specs.declared.view.View.{View}
@@ -42,3 +43,12 @@ first_view faults = bare_view true 0 faults
 -- the view of a mutator that has ended
 abbrev pub spent_view : View
 spent_view = bare_view false 0 0
+
+-- a table without pages
+abbrev pub blank_told : Told
+blank_told = record {
+  pages = 0;
+  frontier = 0;
+  next_name = 0;
+  opening = record { catalog = []; images = empty; heads = []; due = 0; file = None; journal = None };
+}
