@@ -22,3 +22,5 @@ pub mod SeatSteps
 pub mod Opens
 pub mod RowCalls
 pub mod DrawCalls
+pub mod Carrying
+pub mod UnitCalls

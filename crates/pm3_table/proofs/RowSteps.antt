@@ -27,7 +27,7 @@ use Rattle.pm3_table.specs.Holds.{holds_of, spans_of}
 use Rattle.pm3_table.specs.Ops.{did, refused}
 use Rattle.pm3_table.specs.Telling.{limit, first, names, names_page, Good, spans_in, counted_in, HasInSpace}
 use Rattle.pm3_table.specs.Words.{Encodes, unit_at, unit_word, mark_in, space_in, turn_unit, space_unit}
-use Rattle.pm3_table.specs.Rows.{RowsRule, KnowsRow, row_with, moves_of}
+use Rattle.pm3_table.specs.Rows.{RowView, RowsRule, KnowsRow, row_with, moves_of}
 use Rattle.pm3_table.specs.Pages.{PagesRule}
 use Rattle.pm3_table.specs.Units.{UnitsRule}
 use Rattle.pm3_table.specs.Draws.{DrawsRule}
@@ -258,3 +258,11 @@ module _ {V : Type 0} (stands : Told → List Done → List Done → ℕ → V �
             (λ i. (put_same r.holder p 0 (sym vol.1) i, put_same r.space p (j + 1) (sym space) i)) e)
         (marks_part None (spans_in spans) told.pages told.frontier (names_page told) (r.counter 0) r.used r.machine.mark r.space r.holder r.history s.homes (λ k. page_view (r.crew k)) r.paged p 0
             (λ o. absurd (o refl)))
+
+    -- a load of a unit's word that is not 0, by one that is refused the unit
+    pub refuses_unit : (u i : ℕ) → Rule record { words = set s.words i (get_or s.words i 0); homes = s.homes; views = set s.views id (refused v u (get_or s.words i 0)) }
+    refuses_unit u i = row_step r.machine (set s.words i (get_or s.words i 0)) v.log (record { unit = u; word = get_or s.words i 0 } ∷ v.refusals)
+        (subst (λ (f : ℕ → RowView). RowsRule told.pages (moves_of r.history) r.machine f)
+            (sym (put_same (λ k. row_view (r.crew k)) v.row (row_with v.log) (λ j. record { live = sym here_lives j; log = (sym here_is j).log }))) r.rows)
+        (encode_same told.pages r.machine.word r.holder r.machine.mark r.space r.counter s.words r.words i)
+        r.paged

@@ -1,6 +1,6 @@
 -- What single steps tell of the view after them.
 use Rattle.std.specs.Prelude.{◌≡◌, ◌≢◌, ℕ, ◌+◌, ◌<◌, ◌≤◌, ◌==◌, true, false, if◌then◌else◌, List, ◌∷◌, ◌++◌, Option, None}
-use Rattle.atomic_table.specs.Table.{Step, Me}
+use Rattle.atomic_table.specs.Table.{Step, Me, rest}
 use Rattle.pm3_history.specs.Entry.{Done}
 use Rattle.pm3_table.specs.declared.view.Deed.TheVariants.{Stored, Stood, Marked, Found, Unmarked}
 use Rattle.pm3_table.specs.declared.view.Told.{Told}
@@ -64,9 +64,14 @@ module _ {V : Type 0} where
   abbrev pub reaches : ℕ → Step (Option V) → Me (Option V) View → ℕ → Me (Option V) View → Type 0
   reaches u st me n me' = me' ≡ (me.0, (u, None) ∷ dropped u me.1)
 
-  -- a store of 0 to a unit's word
-  abbrev pub gives : ℕ → List (ℕ × Option V) → Step (Option V) → Me (Option V) View → ℕ → Me (Option V) View → Type 0
-  gives u others st me n me' = (me'.0 ≡ gave me.0 u) × ((x : Option V) → me.1 ≡ (u, x) ∷ others → me'.1 ≡ others)
+  -- a store of 0 to the word of a unit, whose slot is on top
+  abbrev pub gives : ℕ → Step (Option V) → Me (Option V) View → ℕ → Me (Option V) View → Type 0
+  gives u st me n me' = me' ≡ (gave me.0 u, rest me.1)
+
+  -- the same for the turn, with commits that join the history and others that failed
+  abbrev pub turns : (V → ℕ) → ℕ → List Done → List Done → Step (Option V) → Me (Option V) View → ℕ → Me (Option V) View → Type 0
+  turns counted turn more failed st me n me' =
+      (x : Option V) → me.1 ≡ (turn, x) ∷ rest me.1 → me' ≡ (turned turn me.0 more failed (counted_in counted x), rest me.1)
 
 -- What is told of a unit that was taken: its slot, what came to the history, and the failed commits.
 pub record Taken {V : Type 0} (stands : Told → List Done → List Done → ℕ → V → Type 0) (spans : V → List ℕ) (counted : V → ℕ) (told : Told)

@@ -23,6 +23,8 @@ use Rattle.pm3_table.proofs.SeatSteps as p22
 use Rattle.pm3_table.proofs.Opens as p23
 use Rattle.pm3_table.proofs.RowCalls as p24
 use Rattle.pm3_table.proofs.DrawCalls as p25
+use Rattle.pm3_table.proofs.Carrying as p26
+use Rattle.pm3_table.proofs.UnitCalls as p27
 use Rattle.std.proofs.Common.{rules}
 use Rattle.pm3_table.proofs.probe.look_at.Goals as goal
 
