@@ -24,3 +24,4 @@ pub mod RowCalls
 pub mod DrawCalls
 pub mod Carrying
 pub mod UnitCalls
+pub mod Asked

@@ -11,15 +11,21 @@ mod rule;
 
 // Shared tables and passes, and what each step on them tells.
 mod plays;
-mod row_steps;
 mod shared;
+
+// Single steps, one public call each.
+mod draw_steps;
+mod row_steps;
+mod unit_steps;
 
 mod probe;
 
 pub use chronicle::Chronicle;
 pub use entry::{Commit, Opening};
 pub use plays::Aim;
-pub use row_steps::store_word;
+pub use draw_steps::{NAMES, draw_name, draw_page};
+pub use row_steps::{load_named, look, mark_page, read_word, store_word, unmark_page};
+pub use unit_steps::{give_unit, settle_held, settle_volatile, take_unit};
 pub use rule::{Key, TheRule};
 pub use shared::{Pass, Shared};
 pub use view::{Deed, Hold, Kept, Refusal, Span, Told, View};

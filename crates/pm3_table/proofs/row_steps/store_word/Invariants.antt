@@ -1,5 +1,5 @@
-use Rattle.pm3_table.specs.Starting.{blank_told}
 use Rattle.std.specs.Prelude.{[]}
+use Rattle.pm3_table.specs.Starting.{blank_told}
 use Rattle.pm3_table.proofs.row_steps.store_word.Given as goal
 
 abbrev pub ghosts-store_at : goal.ghosts-store_at

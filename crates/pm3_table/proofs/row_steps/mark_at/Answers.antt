@@ -1,0 +1,31 @@
+use Rattle.std.proofs.Common.{rules, ◌≡◌, ◌≢◌, ℕ, ◌+◌, ◌*◌, ◌<◌, ◌≤◌, true, false, Option, None, List, [], ◌∷◌, refl, sym, ap, ◌∙◌, subst, arith}
+use Rattle.pm3_core.specs.Naming.{Names}
+use Rattle.atomic_table.specs.Table.{Me, step, Allows, rest}
+use mathlib.Core.Option.{none}
+use Rattle.pm3_table.specs.declared.view.Told.{Told}
+use Rattle.pm3_table.specs.declared.view.View.{View}
+use Rattle.pm3_table.specs.Carried.{IsIdle, dropped}
+use Rattle.pm3_table.specs.Deeds.{word_of, marks_of}
+use Rattle.pm3_table.specs.Holds.{holds_of, spans_of, is_in}
+use Rattle.pm3_table.specs.Ops.{gave, turned, begins_draw}
+use Rattle.pm3_table.specs.Plays as play
+use Rattle.pm3_table.specs.Rule.{Ruled}
+use Rattle.pm3_table.specs.Settles.{MaySettle}
+use Rattle.pm3_table.specs.Starting.{told_of}
+use Rattle.pm3_table.specs.Telling.{limit, Good, HasInSpace, is_steady, knows_used, spans_in, counted_in, MayJoin}
+use Rattle.pm3_table.specs.Words.{space_unit, turn_unit}
+use Rattle.pm3_table.proofs.Asked.{within, idle_gave, idle_turned}
+use Rattle.pm3_table.proofs.RowCalls.{mark_call}
+use Rattle.pm3_table.proofs.row_steps.mark_at.Goals as goal
+
+pub store-requires : goal.store-requires
+store-requires g c = let key = c.shared.inside.table.shared.key in let v = g.V.Chronicle in let laws = g.met.V.Chronicle in
+    let t : Told = told_of v.opening key.pages key.frontier key.next_name key.turn.value in
+    let me = c.pass.inside.seat.me in
+    let told_is : c.args.shared.now.1 ≡ t = ap (λ z. z.1) (sym c.shared.view_is) in
+    (
+  search rules,
+  search rules,
+  mark_call v.stands v.spans v.counted t _ _ _ c.pass.invariant.live _ _ _ c.args.space c.args.page refl c.requires.aim (omega (arith, c.pass.invariant.row_is))
+      (within _ _ me.0 t _ _ c.pass.view_is c.shared.view_is (λ (x : Told) (y : View). HasInSpace x y c.args.space c.args.page) c.requires.has) (within _ _ me.0 t _ _ c.pass.view_is c.shared.view_is (λ (x : Told) (y : View). marks_of y.log c.args.page ≡ false) c.requires.bare),
+)

@@ -1,0 +1,6 @@
+use Rattle.std.specs.Prelude.{[]}
+use Rattle.pm3_table.specs.Starting.{blank_told}
+use Rattle.pm3_table.proofs.row_steps.unmark_page.Given as goal
+
+abbrev pub ghosts-unmark_at : goal.ghosts-unmark_at
+ghosts-unmark_at g a = record { told = blank_told; in_row = 0; at = a.page; more = []; failed = [] }
