@@ -4,9 +4,13 @@ use Rattle.atomic_table.specs.Table.{rest}
 use Rattle.pm3_history.specs.Entry.{Done}
 use Rattle.pm3_table.specs.declared.view.Told.{Told}
 use Rattle.pm3_table.specs.declared.view.View.{View}
-use Rattle.pm3_table.specs.Carried.{IsIdle, dropped}
-use Rattle.pm3_table.specs.Holds.{holds_of}
-use Rattle.pm3_table.specs.Ops.{gave, turned}
+use Rattle.std.proofs.Common.{arith}
+use Rattle.std.proofs.lemmas.Bool.Decides.{nat_tests}
+use Rattle.pm3_table.specs.declared.view.Hold.{Hold}
+use Rattle.pm3_table.specs.Seats.{left_view, new_view, both_views}
+use Rattle.pm3_table.specs.Carried.{IsIdle, Carries, slots_in, dropped}
+use Rattle.pm3_table.specs.Holds.{holds_of, is_in}
+use Rattle.pm3_table.specs.Ops.{gave, turned, drew_row}
 use Rattle.pm3_table.proofs.Carrying.{carries_gave}
 
 -- what a contract says of a pass and a table holds of their fields
@@ -35,3 +39,52 @@ idle_turned v row c turn more failed faults holds i = record {
   last = i.last;
   carries = carries_gave v.holds c turn holds i.carries;
 }
+
+-- what is shown of fields holds of what a contract says
+pub outside : {A B : Type 0} (a : A) (b : B) (v : View) (t : Told) (p : A × View) (s : B × Told) → (a, v) ≡ p → (b, t) ≡ s → (P : A × View → B × Told → Type 0) → P (a, v) (b, t) → P p s
+outside {A = A} {B = B} a b v t p s vp ts P x = subst (λ (z : (A × View) × (B × Told)). P z.0 z.1) (λ i. (vp i, ts i)) x
+
+-- a pass that holds nothing carries nothing
+pub none_carried : {V : Type 0} (holds : List Hold) (c : List (ℕ × Option V)) → ((u : ℕ) → holds_of holds u ≡ false) → Carries holds c → c ≡ []
+none_carried holds [] bare k = refl
+none_carried holds (x ∷ xs) bare k = let a : is_in x.0 (x.0 ∷ slots_in xs) ≡ false = k.same x.0 ∙ bare x.0 in absurd (differs x.0 (slots_in xs) a)
+  where
+    differs : (n : ℕ) (l : List ℕ) → is_in n (n ∷ l) ≡ false → ⊥
+    differs n l e = grind (arith, nat_tests, e)
+
+pub idle_split : {V : Type 0} (v : View) (row n : ℕ) (c : List (ℕ × Option V)) → IsIdle v row c → IsIdle (left_view (drew_row v n)) row c
+idle_split v row n c i = record {
+  live = i.live;
+  row_is = i.row_is;
+  low = i.low;
+  drawing = refl;
+  rows = i.rows;
+  last = refl;
+  carries = i.carries;
+}
+
+pub idle_new : {V : Type 0} (v : View) (n : ℕ) → n < 32 → IsIdle {V = V} (new_view n v) n []
+idle_new v n low = record {
+  live = refl;
+  row_is = refl;
+  low = low;
+  drawing = refl;
+  rows = refl;
+  last = refl;
+  carries = record { same = λ u. refl; once = tt; empty = tt };
+}
+
+pub idle_joined : {V : Type 0} (v x : View) (row : ℕ) (c : List (ℕ × Option V)) → IsIdle v row c → IsIdle (both_views v x) row c
+idle_joined v x row c i = record {
+  live = i.live;
+  row_is = i.row_is;
+  low = i.low;
+  drawing = i.drawing;
+  rows = i.rows;
+  last = refl;
+  carries = i.carries;
+}
+
+-- a mutator that split off another is as it was
+pub split_same : {V : Type 0} (v : View) (row n : ℕ) (c : List (ℕ × Option V)) → IsIdle v row c → left_view (drew_row v n) ≡ v
+split_same v row n c i = λ j. record v { drawing = sym i.drawing j; last = sym i.last j }

@@ -25,3 +25,4 @@ pub mod DrawCalls
 pub mod Carrying
 pub mod UnitCalls
 pub mod Asked
+pub mod SeatCalls

@@ -16,6 +16,8 @@ mod shared;
 // Single steps, one public call each.
 mod draw_steps;
 mod row_steps;
+mod seats;
+mod starts;
 mod unit_steps;
 
 mod probe;
@@ -25,7 +27,9 @@ pub use entry::{Commit, Opening};
 pub use plays::Aim;
 pub use draw_steps::{NAMES, draw_name, draw_page};
 pub use row_steps::{load_named, look, mark_page, read_word, store_word, unmark_page};
-pub use unit_steps::{give_unit, settle_held, settle_volatile, take_unit};
+pub use seats::{join, split};
+pub use starts::start;
+pub use unit_steps::{give_turn, give_unit, settle_held, settle_volatile, take_unit};
 pub use rule::{Key, TheRule};
 pub use shared::{Pass, Shared};
 pub use view::{Deed, Hold, Kept, Refusal, Span, Told, View};

@@ -159,3 +159,17 @@ pub fn settle_held<V: Chronicle>(shared: &Shared<V>, pass: &mut Pass<V>, page: u
 {
     settle_held_at::<V, Brand>(shared, pass, page);
 }
+
+/// Gives the turn back with its value. Of the two lists of commits that the caller picks, the first joins the history, and the
+/// second is kept as failed.
+pub fn give_turn<V: Chronicle>(shared: &Shared<V>, pass: &mut Pass<V>, value: V)
+    ghost commits: { List Done × List Done }
+    requires of { IsOf pass.old shared.now }
+    requires turn { holds_of pass.old.1.holds (turn_unit shared.now.1.pages) ≡ true }
+    requires good { V.stands shared.now.1 (pass.old.1.lost ++ commits.1) (pass.old.1.seen ++ commits.0) (turn_unit shared.now.1.pages) value }
+    requires heard { pass.old.1.faults ≤ V.counted value }
+    requires may { MayJoin shared.now.1 pass.old.1 commits.0 commits.1 }
+    ensures { Becomes pass.old pass.new (turned (turn_unit shared.now.1.pages) pass.old.1 commits.0 commits.1 (V.counted value)) }
+{
+    turn_at::<V, Brand>(shared, pass, value);
+}

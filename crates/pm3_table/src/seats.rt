@@ -1,0 +1,71 @@
+//! Mutators are made, and end.
+ghost use Rattle.std.specs.Prelude.{◌≡◌, ℕ, ◌<◌, MatchOption};
+ghost use Rattle.pm3_table.specs.Ops.{saw_full};
+ghost use Rattle.pm3_table.specs.Passes.{IsOf, Becomes};
+ghost use Rattle.pm3_table.specs.Seats.{new_view, both_views, IsBlank};
+
+use crate::chronicle::Chronicle;
+use crate::plays::{Aim, CountsRows, Cut, FetchesRow, Glue};
+use crate::shared::{Pass, Shared};
+use pm3_core::PLACES;
+use std::marker::Brand;
+
+fn split_at<V: Chronicle, J: Aim>(shared: &Shared<V>, pass: &mut Pass<V>) -> Option<Pass<V>>
+    requires of { IsOf pass.old shared.now }
+    requires aim { J.told ≡ shared.now.1 }
+    ensures { MatchOption result (Becomes pass.old pass.new (saw_full 2 pass.old.1)) (λ made. (pass.new ≡ pass.old) × ((n : ℕ) × (n < 32) × Becomes pass.old made (new_view n pass.old.1))) }
+{
+    let at = PLACES + (shared.pages as usize + 33) + 2;
+    let seen = shared.table.shared.load::<CountsRows<J>>(&mut pass.seat, at);
+    if seen >= 32 {
+        return None;
+    }
+    let row = shared.table.shared.fetch_add::<FetchesRow<J>>(&mut pass.seat, at, 1);
+    if row >= 32 {
+        return None;
+    }
+    let seat = shared.table.shared.split_seat::<Cut>(&mut pass.seat);
+    Some(Pass {
+        seat,
+        row: row as u32,
+    })
+}
+
+/// Makes a mutator with a row of its own, which knows what this one knows, or answers None where a value of the row counter
+/// that was read is 32 or more.
+pub fn split<V: Chronicle>(shared: &Shared<V>, pass: &mut Pass<V>) -> Option<Pass<V>>
+    requires { IsOf pass.old shared.now }
+    ensures { MatchOption result (Becomes pass.old pass.new (saw_full 2 pass.old.1)) (λ made. (pass.new ≡ pass.old) × ((n : ℕ) × (n < 32) × Becomes pass.old made (new_view n pass.old.1))) }
+{
+    split_at::<V, Brand>(shared, pass)
+}
+
+/// Ends a mutator that holds no unit and no mark, and whose row is 0 everywhere. This one then knows what both knew, and
+/// keeps the other's commits.
+pub fn join<V: Chronicle>(shared: &Shared<V>, pass: &mut Pass<V>, other: Pass<V>)
+    requires of { IsOf pass.old shared.now }
+    requires other { IsOf other shared.now }
+    requires blank { IsBlank other.1 }
+    ensures { Becomes pass.old pass.new (both_views pass.old.1 other.1) }
+{
+    let Pass { seat, row: _ } = other;
+    shared.table.shared.join_seat::<Glue>(&mut pass.seat, seat);
+}
+
+impl<V> Pass<V> {
+    /// The number of its row.
+    pub fn row(&self) -> u32
+        ensures { (result ≡ self.now.1.row) × (result < 32) }
+    {
+        self.row
+    }
+}
+
+impl<V: Chronicle> Shared<V> {
+    /// How many pages there are.
+    pub fn page_count(&self) -> u32
+        ensures { (result ≡ self.now.1.pages) × (result < 16385) }
+    {
+        self.pages
+    }
+}
