@@ -26,3 +26,4 @@ pub mod Carrying
 pub mod UnitCalls
 pub mod Asked
 pub mod SeatCalls
+pub mod LawsKept

@@ -22,3 +22,4 @@ pub mod FirstHomes
 pub mod Carried
 pub mod Passes
 pub mod Plays
+pub mod Laws

@@ -1,4 +1,11 @@
-//! The shared table of the heap.
+//! The shared table of the heap: rows of stack words, the units that mutators hold, each with a slot for its value, three
+//! counters, and the history of commits.
+//!
+//! The layer above may rely on three things. Between any two steps the state meets one rule (`Ruled` of specs/), whatever
+//! the other mutators do: of the rows it says that a page is moved only where no standing word names it, and of the slots
+//! that the values at home stand for their units after the whole history (`table_law`). A pass knows by its own view what
+//! no other can change: its row, what it marks and holds, what it has drawn, and a beginning of the history. And each call
+//! says exactly what it makes of that view.
 #![tactic(auto)]
 
 // What clauses see: commits, openings and the views of mutators.
@@ -8,6 +15,9 @@ mod view;
 // Values of slots, and the rule.
 mod chronicle;
 mod rule;
+
+// Units, and how they are refused.
+mod unit;
 
 // Shared tables and passes, and what each step on them tells.
 mod plays;
@@ -20,17 +30,19 @@ mod seats;
 mod starts;
 mod unit_steps;
 
-mod probe;
+// What holds of every state.
+mod law;
 
 pub use chronicle::Chronicle;
-pub use entry::{Commit, Opening};
-pub use plays::Aim;
 pub use draw_steps::{NAMES, draw_name, draw_page};
+pub use entry::{Commit, Opening};
+pub use law::table_law;
+pub use plays::Aim;
 pub use row_steps::{load_named, look, mark_page, read_word, store_word, unmark_page};
-pub use seats::{join, split};
-pub use starts::start;
-pub use unit_steps::{give_turn, give_unit, settle_held, settle_volatile, take_unit};
 pub use rule::{Key, TheRule};
+pub use seats::{join, split};
 pub use shared::{Pass, Shared};
+pub use starts::start;
+pub use unit::{Busy, Full, Limit, Unit};
+pub use unit_steps::{give_turn, give_unit, settle_held, settle_volatile, take_unit};
 pub use view::{Deed, Hold, Kept, Refusal, Span, Told, View};
-pub use probe::look_at;

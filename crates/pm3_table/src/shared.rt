@@ -7,6 +7,7 @@ use std::alloc::Global;
 use std::marker::Model;
 
 /// The shared table. Contracts see which table it is, and what it was told at its start.
+#[derive(Drop)]
 pub struct Shared<V: Chronicle> {
     pub(crate) table: Table<Option<V>, View, Key<V>, TheRule, Global>,
     pub(crate) pages: u32,
@@ -32,6 +33,7 @@ impl<V: Chronicle> Model for Shared<V> {
 }
 
 /// The token of one mutator: its seat, and the number of its row. Contracts see which table it belongs to, and its view.
+#[derive(Drop)]
 pub struct Pass<V> {
     pub(crate) seat: Seat<Option<V>, View>,
     pub(crate) row: u32,
