@@ -52,7 +52,7 @@ scanned_reads pages n (w ∷ ws) log page marked free i low high =
     let deed : List Deed = Found (n / ROW_PLACES) (n % ROW_PLACES) w ∷ log in
     dite (ℕ_discrete i n)
     (λ e. stays_read pages (n + 1) ws deed page i (subst (λ (k : ℕ). reads_of pages deed page k ≡ true) (where_found n ∙ sym e)
-        (read_now pages log (n / ROW_PLACES) (n % ROW_PLACES) w page marked (names_not pages w page (free 0 (omega arith))))))
+    (read_now pages log (n / ROW_PLACES) (n % ROW_PLACES) w page marked (names_not pages w page (free 0 (omega arith))))))
     (λ o. scanned_reads pages (n + 1) ws deed page marked (λ k b. free (suc k) (omega (arith, b))) i (omega (arith, o, low)) (omega (arith, high)))
 
 pub scanned_clears : (pages : ℕ) (ws : List ℕ) (log : List Deed) (page : ℕ) → length ws ≡ PLACES → marks_of log page ≡ true → ((i : ℕ) → i < PLACES → Names pages (get_or ws i 0) page → ⊥)

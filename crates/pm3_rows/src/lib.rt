@@ -9,8 +9,6 @@
 mod marks;
 mod rows;
 mod scans;
-#[cfg(test)]
-mod tests;
 
 pub use marks::{mark, unmark};
 pub use rows::{clear, read_one, store_word, validate};

@@ -24,8 +24,8 @@ module _ (views : List View) (crew : ℕ → View) (seated : Seated views crew) 
   known_now j u lives = ⊎_elim
       (λ (t : (j ≡ id) × (w ≡ u)). put_at crew v.row w u.row (ap (λ (x : View). x.row) (sym t.1) ∙ row) ∙ t.1)
       (λ (t : (j ≢ id) × (get_elem? views j ≡ some u)).
-          let other : u.row ≢ v.row = λ e. t.0 (seated.apart j id u v (t.1, lives.1) l e) in
-          put_else crew v.row w u.row other ∙ seated.knows j u (t.1, lives.1))
+      let other : u.row ≢ v.row = λ e. t.0 (seated.apart j id u v (t.1, lives.1) l e) in
+      put_else crew v.row w u.row other ∙ seated.knows j u (t.1, lives.1))
       (at_set views id j w u lives.0)
 
   abbrev Sits : ℕ → View → Type 0
@@ -44,15 +44,15 @@ module _ (views : List View) (crew : ℕ → View) (seated : Seated views crew) 
   apart_now : (i j : ℕ) (x y : View) → Lives (set views id w) i x → Lives (set views id w) j y → x.row ≡ y.row → i ≡ j
   apart_now i j x y lx ly same = ⊎_elim
       (λ (t : (i ≡ id) × (w ≡ x)). ⊎_elim
-          (λ (q : (j ≡ id) × (w ≡ y)). t.0 ∙ sym q.0)
-          (λ (q : (j ≢ id) × (get_elem? views j ≡ some y)).
-              t.0 ∙ seated.apart id j v y l (q.1, ly.1) (sym row ∙ (ap (λ (z : View). z.row) t.1 ∙ same)))
-          (at_set views id j w y ly.0))
+      (λ (q : (j ≡ id) × (w ≡ y)). t.0 ∙ sym q.0)
+      (λ (q : (j ≢ id) × (get_elem? views j ≡ some y)).
+      t.0 ∙ seated.apart id j v y l (q.1, ly.1) (sym row ∙ (ap (λ (z : View). z.row) t.1 ∙ same)))
+      (at_set views id j w y ly.0))
       (λ (t : (i ≢ id) × (get_elem? views i ≡ some x)). ⊎_elim
-          (λ (q : (j ≡ id) × (w ≡ y)).
-              seated.apart i id x v (t.1, lx.1) l (same ∙ (ap (λ (z : View). z.row) (sym q.1) ∙ row)) ∙ sym q.0)
-          (λ (q : (j ≢ id) × (get_elem? views j ≡ some y)). seated.apart i j x y (t.1, lx.1) (q.1, ly.1) same)
-          (at_set views id j w y ly.0))
+      (λ (q : (j ≡ id) × (w ≡ y)).
+      seated.apart i id x v (t.1, lx.1) l (same ∙ (ap (λ (z : View). z.row) (sym q.1) ∙ row)) ∙ sym q.0)
+      (λ (q : (j ≢ id) × (get_elem? views j ≡ some y)). seated.apart i j x y (t.1, lx.1) (q.1, ly.1) same)
+      (at_set views id j w y ly.0))
       (at_set views id i w x lx.0)
 
   live_here : (crew v.row).live ≡ true

@@ -42,8 +42,8 @@ out_again hs k u a b z apart at_k at_u = same_list (set (set (set (set hs k a) u
     dite (ℕ_discrete i u)
     (λ e. ap (get_elem? (set l3 u z)) e ∙ (set_here l3 u z in_u ∙ (sym at_u ∙ ap (get_elem? hs) (sym e))))
     (λ o. set_else l3 u i z o ∙ dite (ℕ_discrete i k)
-        (λ e. ap (get_elem? (set l2 k z)) e ∙ (set_here l2 k z in_k ∙ (sym at_k ∙ ap (get_elem? hs) (sym e))))
-        (λ p. set_else l2 k i z p ∙ (set_else l1 u i b o ∙ set_else hs k i a p))))
+    (λ e. ap (get_elem? (set l2 k z)) e ∙ (set_here l2 k z in_k ∙ (sym at_k ∙ ap (get_elem? hs) (sym e))))
+    (λ p. set_else l2 k i z p ∙ (set_else l1 u i b o ∙ set_else hs k i a p))))
 
 module _ {V : Type 0} where
   -- the slots above go home, the slot is taken last, and the others are taken again
@@ -76,9 +76,9 @@ module _ {V : Type 0} where
       let in_u : u < length hs1 = subst (λ (n : ℕ). u < n) (sym (length-set hs k (some y))) (inside hs u none at_u_now) in
       let u_now : get_elem? (set hs3 k none) u ≡ some (some None) = set_else hs3 k u none (λ x. apart (sym x)) ∙ set_here hs1 u (some None) in_u in
       let tail : (h : List (maybe.Option (Option V))) (c : List (ℕ × Option V)) → h ≡ hs1 → c ≡ c2 → Valid h c (chain gives (chain (takes k None) (takes u None))) = λ h c p q.
-          subst (λ (z : List (maybe.Option (Option V)) × List (ℕ × Option V)). Valid z.0 z.1 (chain gives (chain (takes k None) (takes u None)))) (λ i. (sym p i, sym q i)) (tt, (k_now, u_now)) in
+      subst (λ (z : List (maybe.Option (Option V)) × List (ℕ × Option V)). Valid z.0 z.1 (chain gives (chain (takes k None) (takes u None)))) (λ i. (sym p i, sym q i)) (tt, (k_now, u_now)) in
       let last : (h : List (maybe.Option (Option V))) (c : List (ℕ × Option V)) → h ≡ hs1 → c ≡ c2 → homes_after h c (chain gives (chain (takes k None) (takes u None))) ≡ hs = λ h c p q.
-          subst (λ (z : List (maybe.Option (Option V)) × List (ℕ × Option V)). homes_after z.0 z.1 (chain gives (chain (takes k None) (takes u None))) ≡ hs) (λ i. (sym p i, sym q i)) (out_again hs k u (some y) (some None) none apart at_k at_u_now) in
+      subst (λ (z : List (maybe.Option (Option V)) × List (ℕ × Option V)). homes_after z.0 z.1 (chain gives (chain (takes k None) (takes u None))) ≡ hs) (λ i. (sym p i, sym q i)) (out_again hs k u (some y) (some None) none apart at_k at_u_now) in
       record {
         valid = (tt, (r.valid, tail (homes_after hs1 xs (reach_act xs u)) (carried_after xs (reach_act xs u)) r.homes r.carried));
         homes = last (homes_after hs1 xs (reach_act xs u)) (carried_after xs (reach_act xs u)) r.homes r.carried;
@@ -92,12 +92,14 @@ module _ {V : Type 0} where
   reach_is (x ∷ xs) u empty once is hs out =
       reach_cons x.0 x.1 xs u (x.0 == u) refl empty.0 hs (out x.0 (grind (arith, nat_tests))) (λ o. out u is)
       (λ o. reach_is xs u empty.1 once.1 (later u x.0 (slots_in xs) o is) (set hs x.0 (some x.1))
-          (λ k h. set_else hs x.0 k (some x.1) (λ e. differs k x.0 (slots_in xs) e h once.0) ∙ out k (deeper k x.0 (slots_in xs) h)))
+      (λ k h. set_else hs x.0 k (some x.1) (λ e. differs k x.0 (slots_in xs) e h once.0) ∙ out k (deeper k x.0 (slots_in xs) h)))
     where
       later : (u k : ℕ) (l : List ℕ) → k ≢ u → ((k == u) || is_in u l) ≡ true → is_in u l ≡ true
       later u k l o e = grind (arith, nat_tests, o, e)
+
       differs : (j k : ℕ) (l : List ℕ) → j ≡ k → is_in j l ≡ true → is_in k l ≡ false → ⊥
       differs j k l e h n = let a : is_in k l ≡ true = ap (λ (i : ℕ). is_in i l) (sym e) ∙ h in cc
+
       deeper : (j k : ℕ) (l : List ℕ) → is_in j l ≡ true → ((k == j) || is_in j l) ≡ true
       deeper j k l h = grind (arith, nat_tests, h)
 
@@ -112,6 +114,7 @@ module _ {V : Type 0} where
           → is_in w (slots_in (if b then xs else ((k, y) ∷ dropped u xs))) ≡ false
       gone k y true e same once is rest = ap (λ (i : ℕ). is_in i (slots_in xs)) (same ∙ sym (eq_of k u e)) ∙ once.0
       gone k y false e same once is rest = let o = ne_of k u e in let r = rest (grind (arith, nat_tests, o, is)) in grind (arith, nat_tests, o, same, r)
+
       left : (k : ℕ) (y : Option V) (b : Bool) → (k == u) ≡ b → w ≢ u → (is_in u (slots_in xs) ≡ true → is_in w (slots_in (dropped u xs)) ≡ is_in w (slots_in xs)) → is_in u (k ∷ slots_in xs) ≡ true
           → is_in w (slots_in (if b then xs else ((k, y) ∷ dropped u xs))) ≡ is_in w (k ∷ slots_in xs)
       left k y true e o rest is = let same = eq_of k u e in grind (arith, nat_tests, same, o)

@@ -89,7 +89,7 @@ counts_absorb made history crew r k n apart alive other no_rows u dead =
     let not_n : (y : ℕ) → r.keeper y ≢ n → keeper y ≡ r.keeper y = λ y o. pick_false (r.keeper y == n) k (r.keeper y) (test_not (r.keeper y) n o) in
     let empty_rows : (y : ℕ) → is_in y (crew n).rows ≡ false = λ y. ap (is_in y) no_rows in
     let counted_k : (y : ℕ) → (counts k (crew k) y ≡ true) ⊎ (counts n (crew n) y ≡ true) → (y < made) × (keeper y ≡ k) = λ y e. ⊎_elim
-        (λ a. let o = r.one k y alive (inl a) in (o.0, not_n y (λ d. apart (sym o.1 ∙ d)) ∙ o.1)) (λ a. let o = r.one n y other (inl a) in (o.0, at_n y o.1)) e in
+    (λ a. let o = r.one k y alive (inl a) in (o.0, not_n y (λ d. apart (sym o.1 ∙ d)) ∙ o.1)) (λ a. let o = r.one n y other (inl a) in (o.0, at_n y o.1)) e in
     record {
       low = r.low;
       keeper = keeper;
@@ -98,46 +98,47 @@ counts_absorb made history crew r k n apart alive other no_rows u dead =
           (λ o. subst (λ (i : ℕ). (c i).live ≡ true) (sym (not_n y o)) (still (r.keeper y) o (r.lives y below)));
       kept = λ y below. dite (ℕ_discrete (r.keeper y) n)
           (λ e. subst (λ (i : ℕ). (counts i (c i) y ≡ true) ⊎ (is_in y (c i).rows ≡ true)) (sym (at_n y e))
-              (⊎_elim
-                  (λ a. inl (ap (λ (v : CountView). counts k v y) here ∙ (split y ∙ from_n (k == y) (n == y) (is_kept (crew n).kept y) (is_kept (crew k).kept y) (ap (λ (i : ℕ). counts i (crew i) y) (sym e) ∙ a))))
-                  (λ a. not_dead ((counts k (c k) y ≡ true) ⊎ (is_in y (c k).rows ≡ true)) (ap (λ (i : ℕ). is_in y (crew i).rows) (sym e) ∙ a) (empty_rows y)) (r.kept y below)))
+          (⊎_elim
+          (λ a. inl (ap (λ (v : CountView). counts k v y) here ∙ (split y ∙ from_n (k == y) (n == y) (is_kept (crew n).kept y) (is_kept (crew k).kept y) (ap (λ (i : ℕ). counts i (crew i) y) (sym e) ∙ a))))
+          (λ a. not_dead ((counts k (c k) y ≡ true) ⊎ (is_in y (c k).rows ≡ true)) (ap (λ (i : ℕ). is_in y (crew i).rows) (sym e) ∙ a) (empty_rows y)) (r.kept y below)))
           (λ o. subst (λ (i : ℕ). (counts i (c i) y ≡ true) ⊎ (is_in y (c i).rows ≡ true)) (sym (not_n y o))
-              (⊎_elim
-                  (λ a. inl (dite (ℕ_discrete (r.keeper y) k)
-                      (λ e. ap (λ (i : ℕ). counts i (c i) y) e ∙ (ap (λ (v : CountView). counts k v y) here ∙ (split y ∙ from_k (k == y) (n == y) (is_kept (crew n).kept y) (is_kept (crew k).kept y) (ap (λ (i : ℕ). counts i (crew i) y) (sym e) ∙ a))))
-                      (λ p. ap (λ (v : CountView). counts (r.keeper y) v y) (now (r.keeper y) o p) ∙ a)))
-                  (λ a. inr (ap (is_in y) (rows_are (r.keeper y) o) ∙ a)) (r.kept y below)));
+          (⊎_elim
+          (λ a. inl (dite (ℕ_discrete (r.keeper y) k)
+          (λ e. ap (λ (i : ℕ). counts i (c i) y) e ∙ (ap (λ (v : CountView). counts k v y) here ∙ (split y ∙ from_k (k == y) (n == y) (is_kept (crew n).kept y) (is_kept (crew k).kept y) (ap (λ (i : ℕ). counts i (crew i) y) (sym e) ∙ a))))
+          (λ p. ap (λ (v : CountView). counts (r.keeper y) v y) (now (r.keeper y) o p) ∙ a)))
+          (λ a. inr (ap (is_in y) (rows_are (r.keeper y) o) ∙ a)) (r.kept y below)));
       one = λ j y live e. let o = off j live in dite (ℕ_discrete j k)
           (λ same. let x = ⊎_elim
-                  (λ a. counted_k y (either y (ap (λ (v : CountView). counts k v y) (sym here) ∙ (ap (λ (i : ℕ). counts i (c i) y) (sym same) ∙ a))))
-                  (λ a. let q = r.one k y alive (inr (ap (λ (v : CountView). is_in y v.rows) (sym here) ∙ (ap (λ (i : ℕ). is_in y (c i).rows) (sym same) ∙ a))) in (q.0, not_n y (λ d. apart (sym q.1 ∙ d)) ∙ q.1)) e in (x.0, x.1 ∙ sym same))
+          (λ a. counted_k y (either y (ap (λ (v : CountView). counts k v y) (sym here) ∙ (ap (λ (i : ℕ). counts i (c i) y) (sym same) ∙ a))))
+          (λ a. let q = r.one k y alive (inr (ap (λ (v : CountView). is_in y v.rows) (sym here) ∙ (ap (λ (i : ℕ). is_in y (c i).rows) (sym same) ∙ a))) in (q.0, not_n y (λ d. apart (sym q.1 ∙ d)) ∙ q.1)) e in (x.0, x.1 ∙ sym same))
           (λ p. let q = r.one j y (was j live) (⊎_elim (λ a. inl (ap (λ (v : CountView). counts j v y) (sym (now j o p)) ∙ a)) (λ a. inr (ap (is_in y) (sym (rows_are j o)) ∙ a)) e) in
-              (q.0, not_n y (λ d. o (sym q.1 ∙ d)) ∙ q.1));
+          (q.0, not_n y (λ d. o (sym q.1 ∙ d)) ∙ q.1));
       entries = λ j y live is. let o = off j live in dite (ℕ_discrete j k)
           (λ same. ap (λ (i : ℕ). counted_under i (c i) y) same ∙ (ap (λ (v : CountView). counted_under k v y) here ∙
-              dite (ℕ_discrete k y)
-              (λ e. pick_true (k == y) (crew k).mine (kept_under all y) (same_test k y e) ∙ (own_of made history crew r k alive ∙ ap (λ (i : ℕ). by i history) e))
-              (λ d. pick_false (k == y) (crew k).mine (kept_under all y) (test_not k y d) ∙
-                  dite (ℕ_discrete n y)
-                  (λ e. pick_true (n == y) (crew n).mine (kept_under ((crew n).kept ++ (crew k).kept) y) (same_test n y e) ∙ (own_of made history crew r n other ∙ ap (λ (i : ℕ). by i history) e))
-                  (λ f. pick_false (n == y) (crew n).mine (kept_under ((crew n).kept ++ (crew k).kept) y) (test_not n y f) ∙ ⊎_elim
-                      (λ t. under_left (crew n).kept (crew k).kept y t ∙ (sym (pick_false (n == y) (crew n).mine (kept_under (crew n).kept y) (test_not n y f)) ∙ r.entries n y other (or_right (n == y) (is_kept (crew n).kept y) t)))
-                      (λ t. under_right (crew n).kept (crew k).kept y t ∙ (sym (pick_false (k == y) (crew k).mine (kept_under (crew k).kept y) (test_not k y d)) ∙ r.entries k y alive (⊎_elim (λ a. a)
-                          (λ a. not_dead (counts k (crew k) y ≡ true) a (λ i. test_not n y f i || t i))
-                          (either y (ap (λ (v : CountView). counts k v y) (sym here) ∙ (ap (λ (i : ℕ). counts i (c i) y) (sym same) ∙ is))))))
-                      (yes_or_no (is_kept (crew n).kept y))))))
+          dite (ℕ_discrete k y)
+          (λ e. pick_true (k == y) (crew k).mine (kept_under all y) (same_test k y e) ∙ (own_of made history crew r k alive ∙ ap (λ (i : ℕ). by i history) e))
+          (λ d. pick_false (k == y) (crew k).mine (kept_under all y) (test_not k y d) ∙
+          dite (ℕ_discrete n y)
+          (λ e. pick_true (n == y) (crew n).mine (kept_under ((crew n).kept ++ (crew k).kept) y) (same_test n y e) ∙ (own_of made history crew r n other ∙ ap (λ (i : ℕ). by i history) e))
+          (λ f. pick_false (n == y) (crew n).mine (kept_under ((crew n).kept ++ (crew k).kept) y) (test_not n y f) ∙ ⊎_elim
+          (λ t. under_left (crew n).kept (crew k).kept y t ∙ (sym (pick_false (n == y) (crew n).mine (kept_under (crew n).kept y) (test_not n y f)) ∙ r.entries n y other (or_right (n == y) (is_kept (crew n).kept y) t)))
+          (λ t. under_right (crew n).kept (crew k).kept y t ∙ (sym (pick_false (k == y) (crew k).mine (kept_under (crew k).kept y) (test_not k y d)) ∙ r.entries k y alive (⊎_elim (λ a. a)
+          (λ a. not_dead (counts k (crew k) y ≡ true) a (λ i. test_not n y f i || t i))
+          (either y (ap (λ (v : CountView). counts k v y) (sym here) ∙ (ap (λ (i : ℕ). counts i (c i) y) (sym same) ∙ is))))))
+          (yes_or_no (is_kept (crew n).kept y))))))
           (λ p. ap (λ (v : CountView). counted_under j v y) (now j o p) ∙ r.entries j y (was j live) (ap (λ (v : CountView). counts j v y) (sym (now j o p)) ∙ is));
       drawn = λ j y live is. let o = off j live in let row : is_in y (crew j).rows ≡ true = ap (is_in y) (sym (rows_are j o)) ∙ is in let had = r.drawn j y (was j live) row in
-          let own = (r.one j y (was j live) (inr row)).1 in
-          (dite (ℕ_discrete y n) (λ e. ap (λ (v : CountView). v.live) (put_at (put crew k w) n u y e) ∙ dead)
-              (λ d. dite (ℕ_discrete y k) (λ e. not_dead ((c y).live ≡ false) alive (ap (λ (i : ℕ). (crew i).live) (sym e) ∙ had.0)) (λ f. ap (λ (v : CountView). v.live) (now y d f) ∙ had.0)),
-           had.1,
-           ⊎_elim (λ t. dite (ℕ_discrete j k)
-                  (λ same. ⊎_elim
-                      (λ a. not_dead (counts j (c j) y ≡ false) (ap (λ (i : ℕ). counts i (crew i) y) same ∙ a) had.2)
-                      (λ a. absurd (apart (sym same ∙ (sym own ∙ (r.one n y other (inl a)).1))))
-                      (either y (ap (λ (v : CountView). counts k v y) (sym here) ∙ (ap (λ (i : ℕ). counts i (c i) y) (sym same) ∙ t))))
-                  (λ p. ap (λ (v : CountView). counts j v y) (now j o p) ∙ had.2))
-              (λ f. f) (yes_or_no (counts j (c j) y)));
+          let own = (r.one j y (was j live) (inr row)).1 in (
+            dite (ℕ_discrete y n) (λ e. ap (λ (v : CountView). v.live) (put_at (put crew k w) n u y e) ∙ dead)
+                (λ d. dite (ℕ_discrete y k) (λ e. not_dead ((c y).live ≡ false) alive (ap (λ (i : ℕ). (crew i).live) (sym e) ∙ had.0)) (λ f. ap (λ (v : CountView). v.live) (now y d f) ∙ had.0)),
+            had.1,
+            ⊎_elim (λ t. dite (ℕ_discrete j k)
+                (λ same. ⊎_elim
+                (λ a. not_dead (counts j (c j) y ≡ false) (ap (λ (i : ℕ). counts i (crew i) y) same ∙ a) had.2)
+                (λ a. absurd (apart (sym same ∙ (sym own ∙ (r.one n y other (inl a)).1))))
+                (either y (ap (λ (v : CountView). counts k v y) (sym here) ∙ (ap (λ (i : ℕ). counts i (c i) y) (sym same) ∙ t))))
+                (λ p. ap (λ (v : CountView). counts j v y) (now j o p) ∙ had.2))
+                (λ f. f) (yes_or_no (counts j (c j) y)),
+          );
       once = λ j live. subst Distinct (sym (rows_are j (off j live))) (r.once j (was j live));
     }

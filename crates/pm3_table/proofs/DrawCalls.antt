@@ -50,7 +50,7 @@ module _ {V : Type 0} (stands : Told → List Done → List Done → ℕ → V �
   -- a fetch of the counter c, of which `drew` tells what it is to have drawn
   module _ (c : ℕ) (low : c < 3) (bound : limit told c < 2 ^ 63) (drew : View → ℕ → View)
       (draws : (s : State (Option V) View) (r : Rule s) (seat : Lives s.views id me.0) → me.0.drawing ≡ c + 1 → r.counter c < limit told c
-          → Rule record { words = set s.words (counter_at told.pages c) (r.counter c + 1); homes = s.homes; views = set s.views id (drew me.0 (r.counter c)) }) where
+      → Rule record { words = set s.words (counter_at told.pages c) (r.counter c + 1); homes = s.homes; views = set s.views id (drew me.0 (r.counter c)) }) where
     fetch_by : (at : ℕ) (aim_told : Told) → at ≡ counter_at told.pages c → aim_told ≡ told → me.0.drawing ≡ c + 1
         → Allows Rule slots id me at (λ n. (n + 1) % 2 ^ 64) (play.fetches aim_told c drew (step slots at 1 0 none) me)
     fetch_by at aim_told is aimed drawing = rw (is, aimed) (λ s r deep seat fits.
@@ -59,12 +59,20 @@ module _ {V : Type 0} (stands : Told → List Done → List Done → ℕ → V �
         let same : n ≡ r.counter c = counter_is s r c low in
         let next : r.counter c + 1 ≡ (n + 1) % 2 ^ 64 = sym (more s r c low (seat, live) drawing bound) in
         dite (dec_le (limit told c) (r.counter c))
-        (λ full. (saw_full c me.0, keeps, tt,
-            subst (λ (x : ℕ). Rule record { words = set s.words i x; homes = s.homes; views = set s.views id (saw_full c me.0) }) next (fetches_full stands spans counted told s r id me.0 (seat, live) c low drawing full),
-            ((λ _. refl), λ below. absurd (omega (arith, below, same, full)))))
-        (λ below. (drew me.0 n, keeps, tt,
-            subst (λ (z : ℕ × ℕ). Rule record { words = set s.words i z.0; homes = s.homes; views = set s.views id (drew me.0 z.1) }) (λ j. (next j, sym same j)) (draws s r (seat, live) drawing (omega (arith, below))),
-            ((λ full. absurd (omega (arith, below, same, full))), λ _. refl))))
+        (λ full. (
+          saw_full c me.0,
+          keeps,
+          tt,
+          subst (λ (x : ℕ). Rule record { words = set s.words i x; homes = s.homes; views = set s.views id (saw_full c me.0) }) next (fetches_full stands spans counted told s r id me.0 (seat, live) c low drawing full),
+          ((λ _. refl), λ below. absurd (omega (arith, below, same, full))),
+        ))
+        (λ below. (
+          drew me.0 n,
+          keeps,
+          tt,
+          subst (λ (z : ℕ × ℕ). Rule record { words = set s.words i z.0; homes = s.homes; views = set s.views id (drew me.0 z.1) }) (λ j. (next j, sym same j)) (draws s r (seat, live) drawing (omega (arith, below))),
+          ((λ full. absurd (omega (arith, below, same, full))), λ _. refl),
+        )))
 
   pub fetch_page_call : (at : ℕ) (aim_told : Told) → at ≡ counter_at told.pages 0 → aim_told ≡ told → me.0.drawing ≡ 1
       → Allows Rule slots id me at (λ n. (n + 1) % 2 ^ 64) (play.fetches aim_told 0 drew_page (step slots at 1 0 none) me)

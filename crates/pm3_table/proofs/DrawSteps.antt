@@ -143,9 +143,9 @@ module _ {V : Type 0} (stands : Told → List Done → List Done → ℕ → V �
         let here = here_is stands spans counted told s r id v l in
         at_view s.views r.crew r.seated id v w l live row draw_view (DrawsRule (limit told) (first told) counter') (draw_view w) refl
         (draws_part (limit told) (first told) r.counter (λ k. draw_view (r.crew k)) r.draws v.row (row_low stands spans counted told s r id v l) (here_lives stands spans counted told s r id v l) (draw_view w) live counter' up filled
-            (λ c low. subst (λ (y : View). min (counter' c) (limit told c) + drew c (draw_view y) ≡ min (r.counter c) (limit told c) + drew c (draw_view w)) (sym here) (sums c low))
-            reach
-            (λ c low full. subst (λ (y : View). counter' c + is_drawing c (draw_view w) ≤ r.counter c + is_drawing c (draw_view y)) (sym here) (excess c low full)))
+        (λ c low. subst (λ (y : View). min (counter' c) (limit told c) + drew c (draw_view y) ≡ min (r.counter c) (limit told c) + drew c (draw_view w)) (sym here) (sums c low))
+        reach
+        (λ c low full. subst (λ (y : View). counter' c + is_drawing c (draw_view w) ≤ r.counter c + is_drawing c (draw_view y)) (sym here) (excess c low full)))
 
     filled_was : (c : ℕ) → is_in c v.filled ≡ true → limit told c ≤ r.counter c
     filled_was c is = r.draws.full v.row (here_lives stands spans counted told s r id v l) c (ap (λ (y : View). is_in c y.filled) (here_is stands spans counted told s r id v l) ∙ is)
@@ -159,8 +159,8 @@ module _ {V : Type 0} (stands : Told → List Done → List Done → ℕ → V �
         (encode_same told.pages r.machine.word r.holder r.machine.mark r.space r.counter s.words r.words (counter_at told.pages c))
         (same_pages (r.counter 0) w l.1 refl refl (omega arith))
         (new_draws r.counter w l.1 refl (λ i. omega arith) (λ i is. filled_was i is) (λ i _. refl)
-            (λ i _ full. inl full)
-            (λ i _ full. busy_same c i v (r.counter i) (limit told i) (λ e. let a : r.counter i < limit told i = subst (λ n. r.counter n < limit told n) (sym e) below in omega (arith, a, full))))
+        (λ i _ full. inl full)
+        (λ i _ full. busy_same c i v (r.counter i) (limit told i) (λ e. let a : r.counter i < limit told i = subst (λ n. r.counter n < limit told n) (sym e) below in omega (arith, a, full))))
         (same_names (r.counter 1) w l.1 refl refl (omega arith))
         (same_counts (min (r.counter 2) 32) w l.1 refl refl refl)
 
@@ -173,8 +173,8 @@ module _ {V : Type 0} (stands : Told → List Done → List Done → ℕ → V �
         (encode_same told.pages r.machine.word r.holder r.machine.mark r.space r.counter s.words r.words (counter_at told.pages c))
         (same_pages (r.counter 0) w l.1 refl refl (omega arith))
         (new_draws r.counter w l.1 refl (λ i. omega arith)
-            (λ i is. either_in i c v.filled is (λ e. subst (λ n. limit told n ≤ r.counter n) e full) (filled_was i)) (λ i _. refl)
-            (λ i _ past. inl past) (λ i _ past. idle_less i c v (r.counter i)))
+        (λ i is. either_in i c v.filled is (λ e. subst (λ n. limit told n ≤ r.counter n) e full) (filled_was i)) (λ i _. refl)
+        (λ i _ past. inl past) (λ i _ past. idle_less i c v (r.counter i)))
         (same_names (r.counter 1) w l.1 refl refl (omega arith))
         (same_counts (min (r.counter 2) 32) w l.1 refl refl refl)
 
@@ -199,10 +199,10 @@ module _ {V : Type 0} (stands : Told → List Done → List Done → ℕ → V �
         draw_step (set s.words (unit_at p) (get_or s.words (unit_at p) 0)) r.counter w l.1 refl refl refl refl refl
         (encode_same told.pages r.machine.word r.holder r.machine.mark r.space r.counter s.words r.words (unit_at p))
         (at_view s.views r.crew r.seated id v w l l.1 refl page_view (PagesRule None (spans_in spans) told.pages told.frontier (names_page told) (r.counter 0) r.used r.machine.mark r.space r.holder r.history s.homes)
-            (page_with (r.crew v.row).holds (r.crew v.row).spans (p ∷ (r.crew v.row).steady) (r.crew v.row).pages)
-            (λ i. record { live = sym l.1 i; holds = (here i).holds; spans = (here i).spans; steady = p ∷ (here i).steady; pages = (here i).pages })
-            (pages_look None (spans_in spans) told.pages told.frontier (names_page told) (r.counter 0) r.used r.machine.mark r.space r.holder r.history s.homes (λ k. page_view (r.crew k)) r.paged v.row (here_lives stands spans counted told s r id v l) p
-                (used_is stands spans counted told frame alike s r id v l p knows) plain))
+        (page_with (r.crew v.row).holds (r.crew v.row).spans (p ∷ (r.crew v.row).steady) (r.crew v.row).pages)
+        (λ i. record { live = sym l.1 i; holds = (here i).holds; spans = (here i).spans; steady = p ∷ (here i).steady; pages = (here i).pages })
+        (pages_look None (spans_in spans) told.pages told.frontier (names_page told) (r.counter 0) r.used r.machine.mark r.space r.holder r.history s.homes (λ k. page_view (r.crew k)) r.paged v.row (here_lives stands spans counted told s r id v l) p
+        (used_is stands spans counted told frame alike s r id v l p knows) plain))
         (unchanged s.views r.crew r.seated id v w l l.1 refl draw_view (DrawsRule (limit told) (first told) r.counter) refl r.draws)
         (same_names (r.counter 1) w l.1 refl refl (omega arith))
         (same_counts (min (r.counter 2) 32) w l.1 refl refl refl)
@@ -218,17 +218,17 @@ module _ {V : Type 0} (stands : Told → List Done → List Done → ℕ → V �
         (encode_counter told.pages r.machine.word r.holder r.machine.mark r.space r.counter s.words r.words c (r.counter c + 1) low)
         (same_pages (counter' 0) w l.1 refl refl (up 0))
         (new_draws counter' w l.1 refl up
-            (λ i is. let a : limit told i ≤ r.counter i = either_in i c v.filled is (λ e. subst (λ n. limit told n ≤ r.counter n) e full) (filled_was i) in let b = up i in omega (arith, a, b))
-            (λ i _. put_cases (λ x. min x (limit told i) + drew i (draw_view v) ≡ min (r.counter i) (limit told i) + drew i (draw_view v)) r.counter c (r.counter c + 1) i
-                (λ e. let a : limit told i ≤ r.counter i = subst (λ n. limit told n ≤ r.counter n) (sym e) full in let b : r.counter i ≡ r.counter c = ap r.counter e in omega (arith, a, b)) (λ _. refl))
-            (λ i _ past. put_cases (λ x. limit told i ≤ x → (limit told i ≤ r.counter i) ⊎ (x ≡ limit told i)) r.counter c (r.counter c + 1) i
-                (λ e _. inl (subst (λ n. limit told n ≤ r.counter n) (sym e) full)) (λ _ p. inl p) past)
-            (λ i _ past. put_cases (λ x. x + is_drawing i (draw_view w) ≤ r.counter i + is_drawing i (draw_view v)) r.counter c (r.counter c + 1) i
-                (λ e. let b : r.counter i ≡ r.counter c = ap r.counter e in let one : is_drawing i (draw_view v) ≡ 1 = is_busy i v l.1 (drawing ∙ ap (λ n. n + 1) (sym e)) in let nil : is_drawing i (draw_view w) ≡ 0 = is_idle i w refl in omega (arith, b, one, nil))
-                (λ _. let nil : is_drawing i (draw_view w) ≡ 0 = is_idle i w refl in omega (arith, nil))))
+        (λ i is. let a : limit told i ≤ r.counter i = either_in i c v.filled is (λ e. subst (λ n. limit told n ≤ r.counter n) e full) (filled_was i) in let b = up i in omega (arith, a, b))
+        (λ i _. put_cases (λ x. min x (limit told i) + drew i (draw_view v) ≡ min (r.counter i) (limit told i) + drew i (draw_view v)) r.counter c (r.counter c + 1) i
+        (λ e. let a : limit told i ≤ r.counter i = subst (λ n. limit told n ≤ r.counter n) (sym e) full in let b : r.counter i ≡ r.counter c = ap r.counter e in omega (arith, a, b)) (λ _. refl))
+        (λ i _ past. put_cases (λ x. limit told i ≤ x → (limit told i ≤ r.counter i) ⊎ (x ≡ limit told i)) r.counter c (r.counter c + 1) i
+        (λ e _. inl (subst (λ n. limit told n ≤ r.counter n) (sym e) full)) (λ _ p. inl p) past)
+        (λ i _ past. put_cases (λ x. x + is_drawing i (draw_view w) ≤ r.counter i + is_drawing i (draw_view v)) r.counter c (r.counter c + 1) i
+        (λ e. let b : r.counter i ≡ r.counter c = ap r.counter e in let one : is_drawing i (draw_view v) ≡ 1 = is_busy i v l.1 (drawing ∙ ap (λ n. n + 1) (sym e)) in let nil : is_drawing i (draw_view w) ≡ 0 = is_idle i w refl in omega (arith, b, one, nil))
+        (λ _. let nil : is_drawing i (draw_view w) ≡ 0 = is_idle i w refl in omega (arith, nil))))
         (same_names (counter' 1) w l.1 refl refl (up 1))
         (same_counts (min (counter' 2) 32) w l.1 refl refl
-            (put_cases (λ x. min x 32 ≡ min (r.counter 2) 32) r.counter c (r.counter c + 1) 2 (λ e. let a : 32 ≤ r.counter 2 = subst (λ n. limit told n ≤ r.counter n) (sym e) full in let b : r.counter 2 ≡ r.counter c = ap r.counter e in omega (arith, a, b)) (λ _. refl)))
+        (put_cases (λ x. min x 32 ≡ min (r.counter 2) 32) r.counter c (r.counter c + 1) 2 (λ e. let a : 32 ≤ r.counter 2 = subst (λ n. limit told n ≤ r.counter n) (sym e) full in let b : r.counter 2 ≡ r.counter c = ap r.counter e in omega (arith, a, b)) (λ _. refl)))
 
     -- the counters after a fetch from one of them that is below its limit
     sums_of : (c : ℕ) (w : View) → r.counter c < limit told c → drew c (draw_view w) ≡ drew c (draw_view v) + 1 → ((i : ℕ) → i < 3 → i ≢ c → drew i (draw_view w) ≡ drew i (draw_view v)) → w.live ≡ true → w.drawing ≡ 0 → v.drawing ≡ c + 1 → w.filled ≡ v.filled → w.row ≡ v.row
@@ -239,14 +239,14 @@ module _ {V : Type 0} (stands : Told → List Done → List Done → ℕ → V �
         new_draws counter' w live row up
         (λ i is. let a : limit told i ≤ r.counter i = filled_was i (ap (is_in i) (sym filled) ∙ is) in let b = up i in omega (arith, a, b))
         (λ i small. put_cases (λ x. min x (limit told i) + drew i (draw_view v) ≡ min (r.counter i) (limit told i) + drew i (draw_view w)) r.counter c (r.counter c + 1) i
-            (λ e. let a : r.counter i < limit told i = subst (λ n. r.counter n < limit told n) (sym e) below in let b : r.counter i ≡ r.counter c = ap r.counter e in
-                let d : drew i (draw_view w) ≡ drew i (draw_view v) + 1 = subst (λ n. drew n (draw_view w) ≡ drew n (draw_view v) + 1) (sym e) more in omega (arith, a, b, d))
-            (λ o. let d = others i small o in omega (arith, d)))
+        (λ e. let a : r.counter i < limit told i = subst (λ n. r.counter n < limit told n) (sym e) below in let b : r.counter i ≡ r.counter c = ap r.counter e in
+        let d : drew i (draw_view w) ≡ drew i (draw_view v) + 1 = subst (λ n. drew n (draw_view w) ≡ drew n (draw_view v) + 1) (sym e) more in omega (arith, a, b, d))
+        (λ o. let d = others i small o in omega (arith, d)))
         (λ i _ past. put_cases (λ x. limit told i ≤ x → (limit told i ≤ r.counter i) ⊎ (x ≡ limit told i)) r.counter c (r.counter c + 1) i
-            (λ e p. let a : r.counter i < limit told i = subst (λ n. r.counter n < limit told n) (sym e) below in let b : r.counter i ≡ r.counter c = ap r.counter e in inr (omega (arith, a, b, p))) (λ _ p. inl p) past)
+        (λ e p. let a : r.counter i < limit told i = subst (λ n. r.counter n < limit told n) (sym e) below in let b : r.counter i ≡ r.counter c = ap r.counter e in inr (omega (arith, a, b, p))) (λ _ p. inl p) past)
         (λ i _ past. put_cases (λ x. x + is_drawing i (draw_view w) ≤ r.counter i + is_drawing i (draw_view v)) r.counter c (r.counter c + 1) i
-            (λ e. let b : r.counter i ≡ r.counter c = ap r.counter e in let one : is_drawing i (draw_view v) ≡ 1 = is_busy i v l.1 (drawing ∙ ap (λ n. n + 1) (sym e)) in let nil : is_drawing i (draw_view w) ≡ 0 = is_idle i w idle in omega (arith, b, one, nil))
-            (λ _. let nil : is_drawing i (draw_view w) ≡ 0 = is_idle i w idle in omega (arith, nil)))
+        (λ e. let b : r.counter i ≡ r.counter c = ap r.counter e in let one : is_drawing i (draw_view v) ≡ 1 = is_busy i v l.1 (drawing ∙ ap (λ n. n + 1) (sym e)) in let nil : is_drawing i (draw_view w) ≡ 0 = is_idle i w idle in omega (arith, b, one, nil))
+        (λ _. let nil : is_drawing i (draw_view w) ≡ 0 = is_idle i w idle in omega (arith, nil)))
 
     -- a page is drawn
     pub draws_page : v.drawing ≡ 1 → r.counter 0 < told.pages
@@ -258,10 +258,10 @@ module _ {V : Type 0} (stands : Told → List Done → List Done → ℕ → V �
         draw_step (set s.words (counter_at told.pages 0) (r.counter 0 + 1)) counter' w l.1 refl refl refl refl refl
         (encode_counter told.pages r.machine.word r.holder r.machine.mark r.space r.counter s.words r.words 0 (r.counter 0 + 1) (omega arith))
         (at_view s.views r.crew r.seated id v w l l.1 refl page_view (PagesRule None (spans_in spans) told.pages told.frontier (names_page told) (r.counter 0 + 1) r.used r.machine.mark r.space r.holder r.history s.homes)
-            (page_with (r.crew v.row).holds (r.crew v.row).spans (r.crew v.row).steady (r.counter 0 ∷ (r.crew v.row).pages))
-            (λ i. record { live = sym l.1 i; holds = (here i).holds; spans = (here i).spans; steady = (here i).steady; pages = r.counter 0 ∷ (here i).pages })
-            (pages_draw None (spans_in spans) told.pages told.frontier (names_page told) (r.counter 0) r.used r.machine.mark r.space r.holder r.history s.homes (λ k. page_view (r.crew k)) r.paged v.row (here_lives stands spans counted told s r id v l)
-                (from_first (limit told) (first told) r.counter (λ k. draw_view (r.crew k)) r.draws 0 (omega arith)) below))
+        (page_with (r.crew v.row).holds (r.crew v.row).spans (r.crew v.row).steady (r.counter 0 ∷ (r.crew v.row).pages))
+        (λ i. record { live = sym l.1 i; holds = (here i).holds; spans = (here i).spans; steady = (here i).steady; pages = r.counter 0 ∷ (here i).pages })
+        (pages_draw None (spans_in spans) told.pages told.frontier (names_page told) (r.counter 0) r.used r.machine.mark r.space r.holder r.history s.homes (λ k. page_view (r.crew k)) r.paged v.row (here_lives stands spans counted told s r id v l)
+        (from_first (limit told) (first told) r.counter (λ k. draw_view (r.crew k)) r.draws 0 (omega arith)) below))
         (sums_of 0 w below (page_more v w l.1 l.1 refl) (page_others v w l.1 l.1 refl refl) l.1 refl drawing refl refl)
         (same_names (r.counter 1) w l.1 refl refl (omega arith))
         (same_counts (min (r.counter 2) 32) w l.1 refl refl refl)
@@ -278,9 +278,9 @@ module _ {V : Type 0} (stands : Told → List Done → List Done → ℕ → V �
         (same_pages (r.counter 0) w l.1 refl refl (omega arith))
         (sums_of 1 w below (name_more v w l.1 l.1 refl) (name_others v w l.1 l.1 refl refl) l.1 refl drawing refl refl)
         (at_view s.views r.crew r.seated id v w l l.1 refl name_view (NamesRule makes told.next_name (r.counter 1 + 1) r.history)
-            (name_with (r.counter 1 ∷ (r.crew v.row).names)) (λ i. record { live = sym l.1 i; names = r.counter 1 ∷ (here i).names })
-            (names_draw makes told.next_name (r.counter 1) r.history (λ k. name_view (r.crew k)) r.named v.row (here_lives stands spans counted told s r id v l)
-                (from_first (limit told) (first told) r.counter (λ k. draw_view (r.crew k)) r.draws 1 (omega arith))))
+        (name_with (r.counter 1 ∷ (r.crew v.row).names)) (λ i. record { live = sym l.1 i; names = r.counter 1 ∷ (here i).names })
+        (names_draw makes told.next_name (r.counter 1) r.history (λ k. name_view (r.crew k)) r.named v.row (here_lives stands spans counted told s r id v l)
+        (from_first (limit told) (first told) r.counter (λ k. draw_view (r.crew k)) r.draws 1 (omega arith))))
         (same_counts (min (r.counter 2) 32) w l.1 refl refl refl)
 
     -- a row is drawn
@@ -298,8 +298,8 @@ module _ {V : Type 0} (stands : Told → List Done → List Done → ℕ → V �
         (sums_of 2 w below (row_more v w l.1 l.1 refl refl) (row_others v w l.1 l.1 refl refl) l.1 refl drawing refl refl)
         (same_names (r.counter 1) w l.1 refl refl (omega arith))
         (subst (λ n. CountsRule n r.history (λ k. count_view (put r.crew v.row w k))) made'
-            (at_view s.views r.crew r.seated id v w l l.1 refl count_view (CountsRule (r.counter 2 + 1) r.history)
-            (count_with (r.counter 2 ∷ (r.crew v.row).rows) (r.crew v.row).mine (r.crew v.row).kept)
-            (λ i. record { live = sym l.1 i; rows = r.counter 2 ∷ (here i).rows; mine = (here i).mine; kept = (here i).kept })
-            (let was : CountsRule (r.counter 2) r.history (λ k. count_view (r.crew k)) = subst (λ n. CountsRule n r.history (λ k. count_view (r.crew k))) made r.counts in
-                rows_draw (r.counter 2) r.history (λ k. count_view (r.crew k)) was v.row (here_lives stands spans counted told s r id v l) (by_past (r.counter 2) (r.counter 2) r.history was.low (omega arith)))))
+        (at_view s.views r.crew r.seated id v w l l.1 refl count_view (CountsRule (r.counter 2 + 1) r.history)
+        (count_with (r.counter 2 ∷ (r.crew v.row).rows) (r.crew v.row).mine (r.crew v.row).kept)
+        (λ i. record { live = sym l.1 i; rows = r.counter 2 ∷ (here i).rows; mine = (here i).mine; kept = (here i).kept })
+        (let was : CountsRule (r.counter 2) r.history (λ k. count_view (r.crew k)) = subst (λ n. CountsRule n r.history (λ k. count_view (r.crew k))) made r.counts in
+        rows_draw (r.counter 2) r.history (λ k. count_view (r.crew k)) was v.row (here_lives stands spans counted told s r id v l) (by_past (r.counter 2) (r.counter 2) r.history was.low (omega arith)))))

@@ -39,7 +39,7 @@ module _ (limit first counter : ℕ → ℕ) (crew : ℕ → DrawView) (r : Draw
   pub room : (c k : ℕ) → c < 3 → k < 32 → (crew k).live ≡ true → (crew k).drawing ≡ c + 1 → counter c < limit c + 32
   room c k low row live drawing = dite (dec_le (limit c) (counter c))
       (λ past. let a = r.excess c low past in let b : is_drawing c (crew k) ≤ total 32 (λ j. is_drawing c (crew j)) = total_part 32 (λ j. is_drawing c (crew j)) k row in
-          let one : is_drawing c (crew k) ≡ 1 = grind (arith, nat_tests, live, drawing) in omega (arith, a, b, one))
+      let one : is_drawing c (crew k) ≡ 1 = grind (arith, nat_tests, live, drawing) in omega (arith, a, b, one))
       (λ below. omega (arith, below))
 
   module _ (k : ℕ) (row : k < 32) (alive : (crew k).live ≡ true) (w : DrawView) (live : w.live ≡ true) where
@@ -59,7 +59,7 @@ module _ (limit first counter : ℕ → ℕ) (crew : ℕ → DrawView) (r : Draw
       excess = λ c low past. ⊎_elim
           (λ was. let a = r.excess c low was in let b = busy_at c k w row in let d = excess c low was in omega (arith, a, b, d, past, was))
           (λ exact. let ones : total 32 (λ j. is_drawing c (put crew k w j)) ≤ 32 = total_ones 32 (λ j. is_drawing c (put crew k w j)) (λ j. one_at_most c (put crew k w j)) in
-              omega (arith, exact, ones))
+          omega (arith, exact, ones))
           (reach c low past);
       sum = λ c low. let a = r.sum c low in let b = sum_at c k w row in let d = sums c low in omega (arith, a, b, d);
     }
@@ -77,8 +77,8 @@ module _ (limit first counter : ℕ → ℕ) (crew : ℕ → DrawView) (r : Draw
         full = λ n. put_cases (λ v. v.live ≡ true → (c : ℕ) → is_in c v.filled ≡ true → limit c ≤ counter c) (put crew i w) j u n
             (λ _ is. absurd (cc))
             (λ _. put_cases (λ v. v.live ≡ true → (c : ℕ) → is_in c v.filled ≡ true → limit c ≤ counter c) crew i w n
-                (λ _ _ c is. ⊎_elim (r.full i live_i c) (r.full j live_j c) (filled c is))
-                (λ _ is. r.full n is));
+            (λ _ _ c is. ⊎_elim (r.full i live_i c) (r.full j live_j c) (filled c is))
+            (λ _ is. r.full n is));
         excess = λ c low past. let a = r.excess c low past in let b = busy_at c i w below_i in
             let d = subst (λ (f : ℕ → ℕ). total 32 f + is_drawing c (put crew i w j) ≡ total 32 (λ n. is_drawing c (put crew i w n)) + is_drawing c u) (sym (put_map (is_drawing c) (put crew i w) j u)) (total_put 32 (λ n. is_drawing c (put crew i w n)) j (is_drawing c u) below_j) in
             let e : is_drawing c (put crew i w j) ≡ is_drawing c (crew j) = ap (is_drawing c) other in

@@ -38,9 +38,9 @@ module _ (pages : ℕ) (row lock mark space counter : ℕ → ℕ) (words : List
         rows = λ i low. get_or-set_other words (unit_at u) i w 0 (λ same. omega (arith, same, low)) ∙ e.rows i low;
         units = λ i low. dite (ℕ_discrete i u)
             (λ here. ap (λ (j : ℕ). get_or (set words (unit_at u) w) (unit_at j) 0) here ∙ (get_or-set_same words (unit_at u) w 0 (omega (arith, e.wide, below))
-                ∙ (λ j. unit_word (sym (put_at lock u l i here) j) (sym (put_at mark u m i here) j) (sym (put_at space u s i here) j))))
+            ∙ (λ j. unit_word (sym (put_at lock u l i here) j) (sym (put_at mark u m i here) j) (sym (put_at space u s i here) j))))
             (λ other. get_or-set_other words (unit_at u) (unit_at i) w 0 (λ same. other (omega (arith, same))) ∙ (e.units i low
-                ∙ (λ j. unit_word (sym (put_else lock u l i other) j) (sym (put_else mark u m i other) j) (sym (put_else space u s i other) j))));
+            ∙ (λ j. unit_word (sym (put_else lock u l i other) j) (sym (put_else mark u m i other) j) (sym (put_else space u s i other) j))));
         counters = λ c low. get_or-set_other words (unit_at u) (counter_at pages c) w 0 (λ same. omega (arith, same, below)) ∙ e.counters c low;
       }
 

@@ -72,6 +72,7 @@ rows_enter pages m crew done r n low dead = record {
     other : (p : ℕ) → m.mark p ≢ n + 1
     other p is = let was = (r.marked p (λ z. omega (arith, z, is))).1 in let same : was.0 ≡ n = (let e = was.1 in omega (arith, e, is)) in
         not_dead ⊥ was.2 (ap (λ (i : ℕ). (crew i).live) same ∙ dead)
+
     unmarked : (p : ℕ) → (m.mark p == n + 1) ≡ false
     unmarked p = grind (arith, nat_tests, other p)
 
@@ -81,12 +82,14 @@ pub units_enter : {S : Type 0} (good : List Done → ℕ → S → Type 0) (coun
 units_enter good count turn names holder history homes crew r k n alive dead =
     let w : UnitView = unit_with [] (crew k).seen (crew k).faults in
     let other : (u : ℕ) → holder u ≢ n + 1 = λ u is. let was = (r.held u (λ z. omega (arith, z, is))).1 in let same : was.0 ≡ n = (let e = was.1 in omega (arith, e, is)) in
-        not_dead ⊥ was.2 (ap (λ (i : ℕ). (crew i).live) same ∙ dead) in
+    not_dead ⊥ was.2 (ap (λ (i : ℕ). (crew i).live) same ∙ dead) in
     let know = r.known k alive in
     let still : (j : ℕ) → (crew j).live ≡ true → (put crew n w j).live ≡ true = λ j live. put_cases (λ v. v.live ≡ true) crew n w j (λ _. refl) (λ _. live) in
     let alike : (j : ℕ) → (crew j).live ≡ true → put crew n w j ≡ crew j = λ j live. put_else crew n w j (λ e. not_dead ⊥ live (ap (λ (i : ℕ). (crew i).live) e ∙ dead)) in
     record {
-      deep = r.deep; home = r.home; out = r.out;
+      deep = r.deep;
+      home = r.home;
+      out = r.out;
       held = λ u is. let was = r.held u is in (was.0, (was.1.0, was.1.1, still was.1.0 was.1.2));
       known = λ j. put_cases (λ v. v.live ≡ true → KnowsUnits names history holder j v) crew n w j
           (λ here _. subst (λ (i : ℕ). KnowsUnits names history holder i w) (sym here) (record {
@@ -103,8 +106,8 @@ units_enter good count turn names holder history homes crew r k n alive dead =
       heard_out = λ i is j. let was = (r.held turn (λ z. omega (arith, z, is))).1 in let same : was.0 ≡ i = (let e = was.1 in omega (arith, e, is)) in
           let i_is = alike i (ap (λ (m : ℕ). (crew m).live) (sym same) ∙ was.2) in
           put_cases (λ v. v.live ≡ true → v.faults ≤ (put crew n w i).faults) crew n w j
-              (λ _ _. subst (λ (v : UnitView). (crew k).faults ≤ v.faults) (sym i_is) (r.heard_out i is k alive))
-              (λ _ live. subst (λ (v : UnitView). (crew j).faults ≤ v.faults) (sym i_is) (r.heard_out i is j live));
+          (λ _ _. subst (λ (v : UnitView). (crew k).faults ≤ v.faults) (sym i_is) (r.heard_out i is k alive))
+          (λ _ live. subst (λ (v : UnitView). (crew j).faults ≤ v.faults) (sym i_is) (r.heard_out i is j live));
     }
 
 pub pages_enter : {S : Type 0} (empty : S) (spans : S → List ℕ) (pages frontier : ℕ) (refers : Done → ℕ → Bool) (top : ℕ) (used : ℕ → Bool) (mark space holder : ℕ → ℕ) (history : List Done) (homes : List (maybe.Option S)) (crew : ℕ → PageView)
@@ -112,7 +115,13 @@ pub pages_enter : {S : Type 0} (empty : S) (spans : S → List ℕ) (pages front
     → PagesRule empty spans pages frontier refers top used mark space holder history homes (put crew n (page_with [] [] (crew k).steady []))
 pages_enter empty spans pages frontier refers top used mark space holder history homes crew r k n alive =
     let w : PageView = page_with [] [] (crew k).steady [] in record {
-      opened = r.opened; low = r.low; blank = r.blank; bare = r.bare; volatile = r.volatile; marks = r.marks; at_home = r.at_home;
+      opened = r.opened;
+      low = r.low;
+      blank = r.blank;
+      bare = r.bare;
+      volatile = r.volatile;
+      marks = r.marks;
+      at_home = r.at_home;
       held = λ i. put_cases (λ v. v.live ≡ true → (j : ℕ) → j < 32 → holds_of v.holds (space_unit pages j) ≡ true → (p : ℕ) → spans_of v.spans (space_unit pages j) p ≡ (space p == j + 1)) crew n w i (λ _ _ j _ e. absurd (cc)) (λ _. r.held i);
       steady = λ i. put_cases (λ v. v.live ≡ true → (p : ℕ) → is_in p v.steady ≡ true → (used p ≡ true) × (space p ≡ 0)) crew n w i (λ _ _. r.steady k alive) (λ _. r.steady i);
       drawn = λ i. put_cases (λ v. v.live ≡ true → (p : ℕ) → is_in p v.pages ≡ true → (frontier ≤ p) × (p < pages) × (p < top) × (used p ≡ false)) crew n w i (λ _ _ p e. absurd (cc)) (λ _. r.drawn i);
@@ -172,7 +181,6 @@ lost_enter turn_holder lost crew r n dead away =
     })
     r.lives
 
-
 -- the view of mutator j after the row n that k drew got its mutator
 pub counts_enter : (made : ℕ) (history : List Done) (crew : ℕ → CountView) → CountsRule made history crew → (k n : ℕ) (rows : List ℕ) → (crew k).live ≡ true → (crew k).rows ≡ n ∷ rows
     → CountsRule made history (put (put crew k (count_with rows (crew k).mine (crew k).kept)) n (count_with [] [] []))
@@ -190,13 +198,13 @@ counts_enter made history crew r k n rows alive drew =
     let count_same : (j x : ℕ) → j ≢ n → counts j (c j) x ≡ counts j (crew j) x = λ j x o. ap (λ (v : CountView). counts j v x) (now j o) ∙ put_cases (λ v. counts j v x ≡ counts j (crew j) x) crew k w j (λ e. ap (λ (i : ℕ). (j == x) || is_kept (crew i).kept x) (sym e)) (λ _. refl) in
     let under_same : (j x : ℕ) → j ≢ n → counted_under j (c j) x ≡ counted_under j (crew j) x = λ j x o. ap (λ (v : CountView). counted_under j v x) (now j o) ∙ put_cases (λ v. counted_under j v x ≡ counted_under j (crew j) x) crew k w j (λ e. ap (λ (i : ℕ). if j == x then (crew i).mine else kept_under (crew i).kept x) (sym e)) (λ _. refl) in
     let rows_was : (j x : ℕ) → j ≢ n → is_in x (c j).rows ≡ true → is_in x (crew j).rows ≡ true = λ j x o is. put_cases (λ v. is_in x v.rows ≡ true → is_in x (crew j).rows ≡ true) crew k w j
-        (λ e y. ap (λ (i : ℕ). is_in x (crew i).rows) e ∙ (ap (is_in x) drew ∙ later_in x n rows y)) (λ _ y. y) (ap (λ (v : CountView). is_in x v.rows) (sym (now j o)) ∙ is) in
+    (λ e y. ap (λ (i : ℕ). is_in x (crew i).rows) e ∙ (ap (is_in x) drew ∙ later_in x n rows y)) (λ _ y. y) (ap (λ (v : CountView). is_in x v.rows) (sym (now j o)) ∙ is) in
     let rows_apart : (j x : ℕ) → (o : j ≢ n) → (c j).live ≡ true → is_in x (c j).rows ≡ true → x ≢ n = λ j x o live is same. dite (ℕ_discrete j k)
-        (λ e. not_dead ⊥ (ap (λ (v : CountView). is_in x v.rows) (sym (now j o ∙ put_at crew k w j e)) ∙ is) (ap (λ (i : ℕ). is_in i rows) same ∙ gone))
-        (λ e. e (sym (r.one j x (was j o live) (inr (rows_was j x o is))).1 ∙ (ap r.keeper same ∙ owner.1))) in
+    (λ e. not_dead ⊥ (ap (λ (v : CountView). is_in x v.rows) (sym (now j o ∙ put_at crew k w j e)) ∙ is) (ap (λ (i : ℕ). is_in i rows) same ∙ gone))
+    (λ e. e (sym (r.one j x (was j o live) (inr (rows_was j x o is))).1 ∙ (ap r.keeper same ∙ owner.1))) in
     let here : c n ≡ u = put_here (put crew k w) n u in
     let not_counted : (j : ℕ) → (c j).live ≡ true → j ≢ n → counts j (crew j) n ≡ false = λ j live o. ⊎_elim
-        (λ y. let own = (r.one j n (was j o live) (inl y)).1 in let is_k : j ≡ k = sym own ∙ owner.1 in not_dead (counts j (crew j) n ≡ false) y (ap (λ (i : ℕ). counts i (crew i) n) is_k ∙ fresh.2)) (λ x. x) (yes_or_no (counts j (crew j) n)) in
+    (λ y. let own = (r.one j n (was j o live) (inl y)).1 in let is_k : j ≡ k = sym own ∙ owner.1 in not_dead (counts j (crew j) n ≡ false) y (ap (λ (i : ℕ). counts i (crew i) n) is_k ∙ fresh.2)) (λ x. x) (yes_or_no (counts j (crew j) n)) in
     record {
       low = r.low;
       keeper = put r.keeper n n;
@@ -206,26 +214,26 @@ counts_enter made history crew r k n rows alive drew =
       kept = λ x below. put_cases (λ i. (counts i (c i) x ≡ true) ⊎ (is_in x (c i).rows ≡ true)) r.keeper n n x
           (λ e. inl (λ i. same_test n x (sym e) i || is_kept (c n).kept x))
           (λ o. let other : r.keeper x ≢ n = (λ e. not_dead ⊥ (r.lives x below) (ap (λ (i : ℕ). (crew i).live) e ∙ fresh.0)) in ⊎_elim
-              (λ a. inl (count_same (r.keeper x) x other ∙ a))
-              (λ a. inr (ap (λ (v : CountView). is_in x v.rows) (now (r.keeper x) other) ∙ put_cases (λ v. is_in x v.rows ≡ true) crew k w (r.keeper x)
-                  (λ e. not_first_in x n rows o (ap (is_in x) (sym drew) ∙ (ap (λ (i : ℕ). is_in x (crew i).rows) (sym e) ∙ a))) (λ _. a)))
-              (r.kept x below));
+          (λ a. inl (count_same (r.keeper x) x other ∙ a))
+          (λ a. inr (ap (λ (v : CountView). is_in x v.rows) (now (r.keeper x) other) ∙ put_cases (λ v. is_in x v.rows ≡ true) crew k w (r.keeper x)
+          (λ e. not_first_in x n rows o (ap (is_in x) (sym drew) ∙ (ap (λ (i : ℕ). is_in x (crew i).rows) (sym e) ∙ a))) (λ _. a)))
+          (r.kept x below));
       one = λ j x live either. dite (ℕ_discrete j n)
           (λ e. let mine : x ≡ n = ⊎_elim
-                  (λ a. let b : (j == x) ≡ true = or_false (j == x) (is_kept (c j).kept x) (ap (λ (v : CountView). is_kept v.kept x) (ap c e ∙ here)) a in sym (is_same j x b) ∙ e)
-                  (λ a. not_dead (x ≡ n) a (ap (λ (v : CountView). is_in x v.rows) (ap c e ∙ here))) either in
-              (subst (λ (i : ℕ). i < made) (sym mine) owner.0, ap (put r.keeper n n) mine ∙ (put_here r.keeper n n ∙ sym e)))
+          (λ a. let b : (j == x) ≡ true = or_false (j == x) (is_kept (c j).kept x) (ap (λ (v : CountView). is_kept v.kept x) (ap c e ∙ here)) a in sym (is_same j x b) ∙ e)
+          (λ a. not_dead (x ≡ n) a (ap (λ (v : CountView). is_in x v.rows) (ap c e ∙ here))) either in
+          (subst (λ (i : ℕ). i < made) (sym mine) owner.0, ap (put r.keeper n n) mine ∙ (put_here r.keeper n n ∙ sym e)))
           (λ o. let had = r.one j x (was j o live) (⊎_elim (λ a. inl (sym (count_same j x o) ∙ a)) (λ a. inr (rows_was j x o a)) either) in
-              let other : x ≢ n = ⊎_elim (λ a same. not_dead ⊥ (sym (count_same j x o) ∙ a) (ap (counts j (crew j)) same ∙ not_counted j live o)) (λ a. rows_apart j x o live a) either in
-              (had.0, put_else r.keeper n n x other ∙ had.1));
+          let other : x ≢ n = ⊎_elim (λ a same. not_dead ⊥ (sym (count_same j x o) ∙ a) (ap (counts j (crew j)) same ∙ not_counted j live o)) (λ a. rows_apart j x o live a) either in
+          (had.0, put_else r.keeper n n x other ∙ had.1));
       entries = λ j x live is. dite (ℕ_discrete j n)
           (λ e. let b : (j == x) ≡ true = or_false (j == x) (is_kept (c j).kept x) (ap (λ (v : CountView). is_kept v.kept x) (ap c e ∙ here)) is in let mine : x ≡ n = sym (is_same j x b) ∙ e in
-              ap (λ (t : Bool). if t then (c j).mine else kept_under (c j).kept x) b ∙ (ap (λ (v : CountView). v.mine) (ap c e ∙ here) ∙ (sym fresh.1 ∙ ap (λ (i : ℕ). by i history) (sym mine))))
+          ap (λ (t : Bool). if t then (c j).mine else kept_under (c j).kept x) b ∙ (ap (λ (v : CountView). v.mine) (ap c e ∙ here) ∙ (sym fresh.1 ∙ ap (λ (i : ℕ). by i history) (sym mine))))
           (λ o. under_same j x o ∙ r.entries j x (was j o live) (sym (count_same j x o) ∙ is));
       drawn = λ j x live is. dite (ℕ_discrete j n)
           (λ e. not_dead (((c x).live ≡ false) × (by x history ≡ []) × (counts j (c j) x ≡ false)) is (ap (λ (v : CountView). is_in x v.rows) (ap c e ∙ here)))
           (λ o. let had = r.drawn j x (was j o live) (rows_was j x o is) in let other = rows_apart j x o live is in
-              (ap (λ (v : CountView). v.live) (now x other) ∙ put_cases (λ v. v.live ≡ false) crew k w x (λ e. not_dead (w.live ≡ false) alive (ap (λ (i : ℕ). (crew i).live) (sym e) ∙ had.0)) (λ _. had.0), had.1, count_same j x o ∙ had.2));
+          (ap (λ (v : CountView). v.live) (now x other) ∙ put_cases (λ v. v.live ≡ false) crew k w x (λ e. not_dead (w.live ≡ false) alive (ap (λ (i : ℕ). (crew i).live) (sym e) ∙ had.0)) (λ _. had.0), had.1, count_same j x o ∙ had.2));
       once = λ j. put_cases (λ v. v.live ≡ true → Distinct v.rows) (put crew k w) n u j (λ _ _. tt)
           (λ _. put_cases (λ v. v.live ≡ true → Distinct v.rows) crew k w j (λ _ _. (subst Distinct drew (r.once k alive)).1) (λ _. r.once j));
     }

@@ -39,8 +39,8 @@ module _ {V : Type 0} (stands : Told → List Done → List Done → ℕ → V �
   home_stands : (u : ℕ) (x : V) → get_elem? s.homes u ≡ some (some (Some x)) → u < turn_unit told.pages + 1 → stands told r.lost r.history u x
   home_stands u x at low = dite (ℕ_discrete (r.holder u) 0)
       (λ free. let home = r.units.home u low free in
-          let same : home.0 ≡ Some x = some-injective home.0 (Some x) (some-injective (some home.0) (some (Some x)) (sym home.1 ∙ at)) in
-          subst (λ (y : Option V). Good stands told r.lost r.history u y) same home.2)
+      let same : home.0 ≡ Some x = some-injective home.0 (Some x) (some-injective (some home.0) (some (Some x)) (sym home.1 ∙ at)) in
+      subst (λ (y : Option V). Good stands told r.lost r.history u y) same home.2)
       (λ taken. absurd (some-ne-none (Some x) (some-injective (some (Some x)) none (sym at ∙ r.units.out u low taken))))
 
   pub history_law : OneHistory stands told s
@@ -56,7 +56,8 @@ module _ {V : Type 0} (stands : Told → List Done → List Done → ℕ → V �
   pub apart_law : DrawnApart s
   apart_law i j v w n lv lw =
       let hv = here_is stands spans counted told s r i v lv in let hw = here_is stands spans counted told s r j w lw in
-      let av = here_lives stands spans counted told s r i v lv in let aw = here_lives stands spans counted told s r j w lw in
-      ((λ a b. r.seated.apart i j v w lv lw (r.paged.apart v.row w.row n av aw (ap (λ (y : View). is_in n y.pages) hv ∙ a) (ap (λ (y : View). is_in n y.pages) hw ∙ b))),
-       (λ a b. r.seated.apart i j v w lv lw (r.named.apart v.row w.row n av aw (ap (λ (y : View). is_in n y.names) hv ∙ a) (ap (λ (y : View). is_in n y.names) hw ∙ b))),
-       λ e. r.seated.apart i j v w lv lw e)
+      let av = here_lives stands spans counted told s r i v lv in let aw = here_lives stands spans counted told s r j w lw in (
+        (λ a b. r.seated.apart i j v w lv lw (r.paged.apart v.row w.row n av aw (ap (λ (y : View). is_in n y.pages) hv ∙ a) (ap (λ (y : View). is_in n y.pages) hw ∙ b))),
+        (λ a b. r.seated.apart i j v w lv lw (r.named.apart v.row w.row n av aw (ap (λ (y : View). is_in n y.names) hv ∙ a) (ap (λ (y : View). is_in n y.names) hw ∙ b))),
+        λ e. r.seated.apart i j v w lv lw e,
+      )

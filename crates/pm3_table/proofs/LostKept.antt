@@ -35,25 +35,25 @@ module _ (turn_holder : ℕ) (lost : List Done) (crew : ℕ → LostView) (r : L
       let was : (j : ℕ) → (put crew k w j).live ≡ true → (crew j).live ≡ true = λ j. put_cases (λ v. v.live ≡ true → (crew j).live ≡ true) crew k w j (λ here _. ap (λ (n : ℕ). (crew n).live) here ∙ alive) (λ _ x. x) in
       ⊎_elim
       (λ none_lost.
-          let nothing : (j : ℕ) → (crew j).live ≡ true → (crew j).failed ≡ [] = λ j x. dite (ℕ_discrete j r.bearer)
-              (λ e. ap (λ (n : ℕ). (crew n).failed) e ∙ (r.bears (ap (λ (n : ℕ). (crew n).live) (sym e) ∙ x) ∙ none_lost)) (λ o. r.others j x o) in
-          record {
-            bearer = k;
-            lives = inr (put_cases (λ v. v.live ≡ true) crew k w k (λ _. refl) (λ o. absurd (o refl)));
-            bears = λ _. ap (λ (v : LostView). v.failed) (put_here crew k w) ∙ (ap (λ (l : List Done). l ++ more) (nothing k alive) ∙ ap (λ (l : List Done). l ++ more) (sym none_lost));
-            others = λ j x o. ap (λ (v : LostView). v.failed) (put_else crew k w j o) ∙ nothing j (was j x);
-            turn_knows = λ j is. absurd (omega (arith, is));
-          })
+      let nothing : (j : ℕ) → (crew j).live ≡ true → (crew j).failed ≡ [] = λ j x. dite (ℕ_discrete j r.bearer)
+      (λ e. ap (λ (n : ℕ). (crew n).failed) e ∙ (r.bears (ap (λ (n : ℕ). (crew n).live) (sym e) ∙ x) ∙ none_lost)) (λ o. r.others j x o) in
+      record {
+        bearer = k;
+        lives = inr (put_cases (λ v. v.live ≡ true) crew k w k (λ _. refl) (λ o. absurd (o refl)));
+        bears = λ _. ap (λ (v : LostView). v.failed) (put_here crew k w) ∙ (ap (λ (l : List Done). l ++ more) (nothing k alive) ∙ ap (λ (l : List Done). l ++ more) (sym none_lost));
+        others = λ j x o. ap (λ (v : LostView). v.failed) (put_else crew k w j o) ∙ nothing j (was j x);
+        turn_knows = λ j is. absurd (omega (arith, is));
+      })
       (λ nothing.
-          let same_list : (l : List Done) → l ++ more ≡ l = λ l. ap (λ (m : List Done). l ++ m) nothing ∙ append_nothing l in
-          let same : (j : ℕ) → (put crew k w j).failed ≡ (crew j).failed = λ j. put_cases (λ v. v.failed ≡ (crew j).failed) crew k w j (λ here. same_list (crew k).failed ∙ ap (λ (n : ℕ). (crew n).failed) (sym here)) (λ _. refl) in
-          record {
-            bearer = r.bearer;
-            lives = ⊎_elim (λ e. inl (same_list lost ∙ e)) (λ x. inr (put_cases (λ v. v.live ≡ true) crew k w r.bearer (λ _. refl) (λ _. x))) r.lives;
-            bears = λ x. same r.bearer ∙ (r.bears (was r.bearer x) ∙ sym (same_list lost));
-            others = λ j x o. same j ∙ r.others j (was j x) o;
-            turn_knows = λ j is. absurd (omega (arith, is));
-          })
+      let same_list : (l : List Done) → l ++ more ≡ l = λ l. ap (λ (m : List Done). l ++ m) nothing ∙ append_nothing l in
+      let same : (j : ℕ) → (put crew k w j).failed ≡ (crew j).failed = λ j. put_cases (λ v. v.failed ≡ (crew j).failed) crew k w j (λ here. same_list (crew k).failed ∙ ap (λ (n : ℕ). (crew n).failed) (sym here)) (λ _. refl) in
+      record {
+        bearer = r.bearer;
+        lives = ⊎_elim (λ e. inl (same_list lost ∙ e)) (λ x. inr (put_cases (λ v. v.live ≡ true) crew k w r.bearer (λ _. refl) (λ _. x))) r.lives;
+        bears = λ x. same r.bearer ∙ (r.bears (was r.bearer x) ∙ sym (same_list lost));
+        others = λ j x o. same j ∙ r.others j (was j x) o;
+        turn_knows = λ j is. absurd (omega (arith, is));
+      })
       single
     where
       append_nothing : (h : List Done) → h ++ [] ≡ h

@@ -103,8 +103,8 @@ module _ {V : Type 0} (stands : Told → List Done → List Done → ℕ → V �
       let at_home : (u : ℕ) (x : Option V) → get_elem? (map some homes) u ≡ some (some x) → get_elem? homes u ≡ some x = λ u x. home_of homes u x in
       let each : (P : View → Type 0) → P v → P spent_view → (k : ℕ) → P (crew k) = λ P a b k. put_cases P (λ _. spent_view) 0 v k (λ _. a) (λ _. b) in
       let sum_is : (f : View → ℕ) → f spent_view ≡ 0 → total 32 (λ k. f (crew k)) ≡ f v = λ f z.
-          let p = subst (λ (g : ℕ → ℕ). total 32 g + f spent_view ≡ total 32 (λ k. f spent_view) + f v) (sym (put_map f (λ _. spent_view) 0 v)) (total_put 32 (λ k. f spent_view) 0 (f v) (omega arith)) in
-          let q : total 32 (λ k. f spent_view) ≡ 0 = total_none 32 (λ k. f spent_view) (λ k. z) in omega (arith, p, q, z) in
+      let p = subst (λ (g : ℕ → ℕ). total 32 g + f spent_view ≡ total 32 (λ k. f spent_view) + f v) (sym (put_map f (λ _. spent_view) 0 v)) (total_put 32 (λ k. f spent_view) 0 (f v) (omega arith)) in
+      let q : total 32 (λ k. f spent_view) ≡ 0 = total_none 32 (λ k. f spent_view) (λ k. z) in omega (arith, p, q, z) in
       record {
         crew = crew;
         seated = record {
@@ -162,7 +162,7 @@ module _ {V : Type 0} (stands : Told → List Done → List Done → ℕ → V �
           full = λ k live c is. absurd (not_dead ⊥ (ap (λ (y : View). is_in c y.filled) (sym (ap crew (only k live) ∙ here)) ∙ is) refl);
           excess = λ c low past. let b = sum_is (λ y. is_drawing c (draw_view y)) (busy_dead c) in let z = busy_none c (counted turn) in
               three_cases (λ c. limit told c ≤ counter c → total 32 (λ k. is_drawing c (draw_view (crew k))) ≡ 0 → (counter c - limit told c) + total 32 (λ k. is_drawing c (draw_view (crew k))) ≤ 32)
-                  (λ p q. let f = bounds.frontier in let c0 = counter_0 in omega (arith, q, f, c0)) (λ p q. let f = bounds.name.1 in let c1 = counter_1 in omega (arith, q, f, c1)) (λ p q. let c2 = counter_2 in omega (arith, q, c2)) c low past (b ∙ z);
+              (λ p q. let f = bounds.frontier in let c0 = counter_0 in omega (arith, q, f, c0)) (λ p q. let f = bounds.name.1 in let c1 = counter_1 in omega (arith, q, f, c1)) (λ p q. let c2 = counter_2 in omega (arith, q, c2)) c low past (b ∙ z);
           sum = three_cases (λ c. min (counter c) (limit told c) ≡ first told c + total 32 (λ k. drew c (draw_view (crew k))))
               (let b = sum_is (λ y. drew 0 (draw_view y)) (drew_dead 0) in let f = bounds.frontier in let c0 = counter_0 in omega (arith, b, f, c0))
               (let b = sum_is (λ y. drew 1 (draw_view y)) (drew_dead 1) in let f = bounds.name.1 in let c1 = counter_1 in omega (arith, b, f, c1))
@@ -200,15 +200,20 @@ module _ {V : Type 0} (stands : Told → List Done → List Done → ℕ → V �
     where
       counter_0 : put (put (put (λ _. 0) 0 told.frontier) 1 told.next_name) 2 1 0 ≡ told.frontier
       counter_0 = refl
+
       counter_1 : put (put (put (λ _. 0) 0 told.frontier) 1 told.next_name) 2 1 1 ≡ told.next_name
       counter_1 = refl
+
       counter_2 : put (put (put (λ _. 0) 0 told.frontier) 1 told.next_name) 2 1 2 ≡ 1
       counter_2 = refl
+
       first_only : (id : ℕ) (y : View) → Lives (first_view (counted turn) ∷ []) id y → id ≡ 0
       first_only zero y l = refl
       first_only (suc id) y l = absurd (some-ne-none y (sym l.0))
+
       sole : (id : ℕ) (y : View) → Lives (first_view (counted turn) ∷ []) id y → put (λ _. spent_view) 0 (first_view (counted turn)) y.row ≡ y
       sole zero y l = let same : first_view (counted turn) ≡ y = some-injective (first_view (counted turn)) y l.0 in put_at (λ _. spent_view) 0 (first_view (counted turn)) y.row (ap (λ (x : View). x.row) (sym same)) ∙ same
       sole (suc id) y l = absurd (some-ne-none y (sym l.0))
+
       own_first : (k : ℕ) → k ≡ 0 → put (λ _. spent_view) 0 (first_view (counted turn)) 0 ≡ first_view (counted turn) → counts 0 (count_view (put (λ _. spent_view) 0 (first_view (counted turn)) 0)) k ≡ true
       own_first k z e = ap (λ (x : View). counts 0 (count_view x) k) e ∙ ap (λ (i : ℕ). counts 0 (count_view (first_view (counted turn))) i) z

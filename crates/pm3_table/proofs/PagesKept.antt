@@ -55,10 +55,19 @@ module _ {S : Type 0} (empty : S) (spans : S → List ℕ) (pages frontier : ℕ
     -- a page is marked by who holds its space, or unmarked
     pub marks_part : (q h : ℕ) → (h ≢ 0 → (space q ≢ 0) × (holder (space_unit pages (space q - 1)) ≡ h)) → Rule top used (put mark q h) space holder history homes crew
     marks_part q h may = record {
-      opened = r.opened; low = r.low; blank = r.blank; bare = r.bare; volatile = r.volatile;
+      opened = r.opened;
+      low = r.low;
+      blank = r.blank;
+      bare = r.bare;
+      volatile = r.volatile;
       marks = λ p. put_cases (λ x. x ≢ 0 → (space p ≢ 0) × (holder (space_unit pages (space p - 1)) ≡ x)) mark q h p
           (λ here. subst (λ (n : ℕ). h ≢ 0 → (space n ≢ 0) × (holder (space_unit pages (space n - 1)) ≡ h)) (sym here) may) (λ _. r.marks p);
-      at_home = r.at_home; held = r.held; steady = r.steady; drawn = r.drawn; apart = r.apart; named = r.named;
+      at_home = r.at_home;
+      held = r.held;
+      steady = r.steady;
+      drawn = r.drawn;
+      apart = r.apart;
+      named = r.named;
     }
 
     -- a persistent page is used and unmarked
@@ -67,18 +76,26 @@ module _ {S : Type 0} (empty : S) (spans : S → List ℕ) (pages frontier : ℕ
 
     -- a held page is used, and of no space
     pub held_page : (q : ℕ) → q < pages → holder q ≢ 0 → (used q ≡ true) × (space q ≡ 0)
-    held_page q low taken =
-        (⊎_elim (λ y. y) (λ n. absurd (taken (r.blank q low n).0)) (yes_or_no (used q)),
-         dite (ℕ_discrete (space q) 0) (λ e. e) (λ o. absurd (taken (r.volatile q o).1)))
+    held_page q low taken = (
+      ⊎_elim (λ y. y) (λ n. absurd (taken (r.blank q low n).0)) (yes_or_no (used q)),
+      dite (ℕ_discrete (space q) 0) (λ e. e) (λ o. absurd (taken (r.volatile q o).1)),
+    )
 
     -- a counter rises, and no page is drawn
     pub pages_higher : (top' : ℕ) → top ≤ top' → Rule top' used mark space holder history homes crew
     pages_higher top' up = record {
       opened = r.opened;
       low = λ p is. let was = r.low p is in (was.0, omega (arith, was.1, up));
-      blank = r.blank; bare = r.bare; volatile = r.volatile; marks = r.marks; at_home = r.at_home; held = r.held; steady = r.steady;
+      blank = r.blank;
+      bare = r.bare;
+      volatile = r.volatile;
+      marks = r.marks;
+      at_home = r.at_home;
+      held = r.held;
+      steady = r.steady;
       drawn = λ k live p is. let was = r.drawn k live p is in (was.0, was.1, omega (arith, was.2, up), was.3);
-      apart = r.apart; named = r.named;
+      apart = r.apart;
+      named = r.named;
     }
 
     module _ (k : ℕ) (alive : (crew k).live ≡ true) where
@@ -96,7 +113,7 @@ module _ {S : Type 0} (empty : S) (spans : S → List ℕ) (pages frontier : ℕ
       -- k takes the unit u, which is at home with x
       pub pages_take : (u : ℕ) (x : S) → holder u ≡ 0 → (u < pages → (used u ≡ true) × (space u ≡ 0)) → get_elem? homes u ≡ some (some x) → u < length homes
           → Rule top used mark space (put holder u (k + 1)) history (set homes u none)
-              (put crew k (page_with (Took u ∷ (crew k).holds) (Spread u (spans x) ∷ (crew k).spans) (crew k).steady (crew k).pages))
+          (put crew k (page_with (Took u ∷ (crew k).holds) (Spread u (spans x) ∷ (crew k).spans) (crew k).steady (crew k).pages))
       pages_take u x free steady at inside =
           let w : PageView = page_with (Took u ∷ (crew k).holds) (Spread u (spans x) ∷ (crew k).spans) (crew k).steady (crew k).pages in record {
             opened = r.opened;
@@ -114,10 +131,10 @@ module _ {S : Type 0} (empty : S) (spans : S → List ℕ) (pages frontier : ℕ
                 (λ o. r.at_home j low y (sym (set_else homes u (space_unit pages j) none o) ∙ home));
             held = λ i. put_cases (λ v. v.live ≡ true → (j : ℕ) → j < 32 → holds_of v.holds (space_unit pages j) ≡ true → (p : ℕ) → spans_of v.spans (space_unit pages j) p ≡ (space p == j + 1)) crew k w i
                 (λ _ _ j low. dite (ℕ_discrete (space_unit pages j) u)
-                    (λ e _ p. ap (λ (f : ℕ → Bool). f p) (put_at (spans_of (crew k).spans) u (λ n. is_in n (spans x)) (space_unit pages j) e)
-                        ∙ r.at_home j low x (ap (get_elem? homes) e ∙ at) p)
-                    (λ o holds p. ap (λ (f : ℕ → Bool). f p) (put_else (spans_of (crew k).spans) u (λ n. is_in n (spans x)) (space_unit pages j) o)
-                        ∙ r.held k alive j low (sym (put_else (holds_of (crew k).holds) u true (space_unit pages j) o) ∙ holds) p))
+                (λ e _ p. ap (λ (f : ℕ → Bool). f p) (put_at (spans_of (crew k).spans) u (λ n. is_in n (spans x)) (space_unit pages j) e)
+                ∙ r.at_home j low x (ap (get_elem? homes) e ∙ at) p)
+                (λ o holds p. ap (λ (f : ℕ → Bool). f p) (put_else (spans_of (crew k).spans) u (λ n. is_in n (spans x)) (space_unit pages j) o)
+                ∙ r.held k alive j low (sym (put_else (holds_of (crew k).holds) u true (space_unit pages j) o) ∙ holds) p))
                 (λ _ live. r.held i live);
             steady = λ i. put_cases (λ v. v.live ≡ true → (p : ℕ) → is_in p v.steady ≡ true → (used p ≡ true) × (space p ≡ 0)) crew k w i (λ _ _. r.steady k alive) (λ _. r.steady i);
             drawn = λ i. put_cases (λ v. v.live ≡ true → (p : ℕ) → is_in p v.pages ≡ true → (frontier ≤ p) × (p < pages) × (p < top) × (used p ≡ false)) crew k w i (λ _ _. r.drawn k alive) (λ _. r.drawn i);
@@ -131,7 +148,7 @@ module _ {S : Type 0} (empty : S) (spans : S → List ℕ) (pages frontier : ℕ
           → ((p : ℕ) → mark p ≢ 0 → space_unit pages (space p - 1) ≢ u)
           → ((p : ℕ) → some_has refers more p ≡ true → used p ≡ true)
           → Rule top used mark space (put holder u 0) (history ++ more) (set homes u (some x))
-              (put crew k (page_with (Gave u ∷ (crew k).holds) (crew k).spans (crew k).steady (crew k).pages))
+          (put crew k (page_with (Gave u ∷ (crew k).holds) (crew k).spans (crew k).steady (crew k).pages))
       pages_give u x more mine inside fits unmarked uses =
           let w : PageView = page_with (Gave u ∷ (crew k).holds) (crew k).spans (crew k).steady (crew k).pages in
           let taken : holder u ≢ 0 = λ z. omega (arith, z, mine) in record {
@@ -144,12 +161,12 @@ module _ {S : Type 0} (empty : S) (spans : S → List ℕ) (pages frontier : ℕ
             marks = λ p is. let was = r.marks p is in (was.0, put_else holder u 0 (space_unit pages (space p - 1)) (unmarked p is) ∙ was.1);
             at_home = λ j low y home. dite (ℕ_discrete (space_unit pages j) u)
                 (λ e p. let is : x ≡ y = some-injective x y (some-injective (some x) (some y) (sym (set_here homes u (some x) inside) ∙ (ap (get_elem? (set homes u (some x))) (sym e) ∙ home))) in
-                    ap (λ (z : S). is_in p (spans z)) (sym is) ∙ fits j low e p)
+                ap (λ (z : S). is_in p (spans z)) (sym is) ∙ fits j low e p)
                 (λ o. r.at_home j low y (sym (set_else homes u (space_unit pages j) (some x) o) ∙ home));
             held = λ i. put_cases (λ v. v.live ≡ true → (j : ℕ) → j < 32 → holds_of v.holds (space_unit pages j) ≡ true → (p : ℕ) → spans_of v.spans (space_unit pages j) p ≡ (space p == j + 1)) crew k w i
                 (λ _ _ j low. dite (ℕ_discrete (space_unit pages j) u)
-                    (λ e holds. let a : holds_of (Gave u ∷ (crew k).holds) (space_unit pages j) ≡ false = put_at (holds_of (crew k).holds) u false (space_unit pages j) e in absurd (cc))
-                    (λ o holds p. r.held k alive j low (sym (put_else (holds_of (crew k).holds) u false (space_unit pages j) o) ∙ holds) p))
+                (λ e holds. let a : holds_of (Gave u ∷ (crew k).holds) (space_unit pages j) ≡ false = put_at (holds_of (crew k).holds) u false (space_unit pages j) e in absurd (cc))
+                (λ o holds p. r.held k alive j low (sym (put_else (holds_of (crew k).holds) u false (space_unit pages j) o) ∙ holds) p))
                 (λ _ live. r.held i live);
             steady = λ i. put_cases (λ v. v.live ≡ true → (p : ℕ) → is_in p v.steady ≡ true → (used p ≡ true) × (space p ≡ 0)) crew k w i (λ _ _. r.steady k alive) (λ _. r.steady i);
             drawn = λ i. put_cases (λ v. v.live ≡ true → (p : ℕ) → is_in p v.pages ≡ true → (frontier ≤ p) × (p < pages) × (p < top) × (used p ≡ false)) crew k w i (λ _ _. r.drawn k alive) (λ _. r.drawn i);
@@ -166,23 +183,31 @@ module _ {S : Type 0} (empty : S) (spans : S → List ℕ) (pages frontier : ℕ
           let now_in : (p : ℕ) → is_in p (top ∷ (crew k).pages) ≡ true → (top ≡ p) ⊎ (is_in p (crew k).pages ≡ true) = λ p is. ⊎_elim (λ y. inl (grind (arith, nat_tests, y))) (λ n. inr (grind (arith, nat_tests, n, is))) (yes_or_no (top == p)) in record {
             opened = r.opened;
             low = λ p is. let was = r.low p is in (was.0, omega (arith, was.1));
-            blank = r.blank; bare = r.bare; volatile = r.volatile; marks = r.marks; at_home = r.at_home;
+            blank = r.blank;
+            bare = r.bare;
+            volatile = r.volatile;
+            marks = r.marks;
+            at_home = r.at_home;
             held = λ i. put_cases (λ v. v.live ≡ true → (j : ℕ) → j < 32 → holds_of v.holds (space_unit pages j) ≡ true → (p : ℕ) → spans_of v.spans (space_unit pages j) p ≡ (space p == j + 1)) crew k w i (λ _ _. r.held k alive) (λ _. r.held i);
             steady = λ i. put_cases (λ v. v.live ≡ true → (p : ℕ) → is_in p v.steady ≡ true → (used p ≡ true) × (space p ≡ 0)) crew k w i (λ _ _. r.steady k alive) (λ _. r.steady i);
             drawn = λ i. put_cases (λ v. v.live ≡ true → (p : ℕ) → is_in p v.pages ≡ true → (frontier ≤ p) × (p < pages) × (p < top + 1) × (used p ≡ false)) crew k w i
                 (λ _ _ p is. ⊎_elim
-                    (λ e. (subst (λ (n : ℕ). frontier ≤ n) e from, subst (λ (n : ℕ). n < pages) e below, omega (arith, e),
-                        ⊎_elim (λ y. absurd (let was = r.low p y in omega (arith, was.1, e))) (λ n. n) (yes_or_no (used p))))
-                    (λ old. let was = r.drawn k alive p old in (was.0, was.1, omega (arith, was.2), was.3))
-                    (now_in p is))
+                (λ e. (
+                  subst (λ (n : ℕ). frontier ≤ n) e from,
+                  subst (λ (n : ℕ). n < pages) e below,
+                  omega (arith, e),
+                  ⊎_elim (λ y. absurd (let was = r.low p y in omega (arith, was.1, e))) (λ n. n) (yes_or_no (used p)),
+                ))
+                (λ old. let was = r.drawn k alive p old in (was.0, was.1, omega (arith, was.2), was.3))
+                (now_in p is))
                 (λ _ live p is. let was = r.drawn i live p is in (was.0, was.1, omega (arith, was.2), was.3));
             apart = λ i j p li lj. put_cases (λ v. is_in p v.pages ≡ true → is_in p (put crew k w j).pages ≡ true → i ≡ j) crew k w i
                 (λ hi a. put_cases (λ v. is_in p v.pages ≡ true → i ≡ j) crew k w j
-                    (λ hj b. hi ∙ sym hj)
-                    (λ oj b. ⊎_elim (λ e. absurd (fresh j p (was_live w j lj) b e)) (λ old. absurd (oj (r.apart j k p (was_live w j lj) alive b old))) (now_in p a)))
+                (λ hj b. hi ∙ sym hj)
+                (λ oj b. ⊎_elim (λ e. absurd (fresh j p (was_live w j lj) b e)) (λ old. absurd (oj (r.apart j k p (was_live w j lj) alive b old))) (now_in p a)))
                 (λ oi a. put_cases (λ v. is_in p v.pages ≡ true → i ≡ j) crew k w j
-                    (λ hj b. ⊎_elim (λ e. absurd (fresh i p (was_live w i li) a e)) (λ old. r.apart i k p (was_live w i li) alive a old ∙ sym hj) (now_in p b))
-                    (λ oj b. r.apart i j p (was_live w i li) (was_live w j lj) a b));
+                (λ hj b. ⊎_elim (λ e. absurd (fresh i p (was_live w i li) a e)) (λ old. r.apart i k p (was_live w i li) alive a old ∙ sym hj) (now_in p b))
+                (λ oj b. r.apart i j p (was_live w i li) (was_live w j lj) a b));
             named = r.named;
           }
 
@@ -191,12 +216,18 @@ module _ {S : Type 0} (empty : S) (spans : S → List ℕ) (pages frontier : ℕ
           → Rule top used mark space holder history homes (put crew k (page_with (crew k).holds (crew k).spans (q ∷ (crew k).steady) (crew k).pages))
       pages_look q is_used none_is =
           let w : PageView = page_with (crew k).holds (crew k).spans (q ∷ (crew k).steady) (crew k).pages in record {
-            opened = r.opened; low = r.low; blank = r.blank; bare = r.bare; volatile = r.volatile; marks = r.marks; at_home = r.at_home;
+            opened = r.opened;
+            low = r.low;
+            blank = r.blank;
+            bare = r.bare;
+            volatile = r.volatile;
+            marks = r.marks;
+            at_home = r.at_home;
             held = λ i. put_cases (λ v. v.live ≡ true → (j : ℕ) → j < 32 → holds_of v.holds (space_unit pages j) ≡ true → (p : ℕ) → spans_of v.spans (space_unit pages j) p ≡ (space p == j + 1)) crew k w i (λ _ _. r.held k alive) (λ _. r.held i);
             steady = λ i. put_cases (λ v. v.live ≡ true → (p : ℕ) → is_in p v.steady ≡ true → (used p ≡ true) × (space p ≡ 0)) crew k w i
                 (λ _ _ p is. dite (ℕ_discrete q p)
-                    (λ e. (ap used (sym e) ∙ is_used, ap space (sym e) ∙ none_is))
-                    (λ o. r.steady k alive p (grind (arith, nat_tests, o, is))))
+                (λ e. (ap used (sym e) ∙ is_used, ap space (sym e) ∙ none_is))
+                (λ o. r.steady k alive p (grind (arith, nat_tests, o, is))))
                 (λ _. r.steady i);
             drawn = λ i. put_cases (λ v. v.live ≡ true → (p : ℕ) → is_in p v.pages ≡ true → (frontier ≤ p) × (p < pages) × (p < top) × (used p ≡ false)) crew k w i (λ _ _. r.drawn k alive) (λ _. r.drawn i);
             apart = same_apart w refl;

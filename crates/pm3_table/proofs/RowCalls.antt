@@ -42,19 +42,33 @@ module _ {V : Type 0} (stands : Told → List Done → List Done → ℕ → V �
 
   pub read_call : (at aim_row aim row place : ℕ) → at ≡ spot row place → aim_row ≡ row → aim ≡ place → row < ROWS → place < ROW_PLACES
       → Allows Rule slots id me at (λ n. n) (play.finds aim_row aim (step slots at 0 0 none) me)
-  read_call at aim_row aim row place is aimed_row aimed below low = rw (is, aimed_row, aimed) (λ s r deep seat fits.
-      (did me.0 (Found row place (get_or s.words (spot row place) 0)), keeps, tt, reads stands spans counted told s r id me.0 (seat, live) row place below low,
-       (refl, λ own. ap (λ (k : ℕ). get_or s.words (spot k place) 0) own ∙ own_word stands spans counted told s r id me.0 (seat, live) place low)))
+  read_call at aim_row aim row place is aimed_row aimed below low = rw (is, aimed_row, aimed) (λ s r deep seat fits. (
+    did me.0 (Found row place (get_or s.words (spot row place) 0)),
+    keeps,
+    tt,
+    reads stands spans counted told s r id me.0 (seat, live) row place below low,
+    (refl, λ own. ap (λ (k : ℕ). get_or s.words (spot k place) 0) own ∙ own_word stands spans counted told s r id me.0 (seat, live) place low),
+  ))
 
   pub validate_call : (at aim_row aim place p : ℕ) → at ≡ unit_at p → aim_row ≡ place → aim ≡ p → place < ROW_PLACES → Names told.pages (word_of me.0.log place) p
       → Allows Rule slots id me at (λ n. n) (play.validates aim_row aim (step slots at 0 0 none) me)
   validate_call at aim_row aim place p is aimed_row aimed low named = rw (is, aimed_row, aimed) (λ s r deep seat fits.
       let n : ℕ = get_or s.words (unit_at p) 0 in
       dite (ℕ_discrete (mark_in n) 0)
-      (λ bare. (did me.0 (Stood place), keeps, tt, validates stands spans counted told s r id me.0 (seat, live) place p low named bare,
-          ap (λ (b : Bool). ((if b then did me.0 (Stood place) else refused me.0 p n), me.1)) (sym (zero_test (mark_in n) bare))))
-      (λ taken. (refused me.0 p n, keeps, tt, refuses stands spans counted told s r id me.0 (seat, live) place p low named taken,
-          ap (λ (b : Bool). ((if b then did me.0 (Stood place) else refused me.0 p n), me.1)) (sym (zero_not (mark_in n) taken)))))
+      (λ bare. (
+        did me.0 (Stood place),
+        keeps,
+        tt,
+        validates stands spans counted told s r id me.0 (seat, live) place p low named bare,
+        ap (λ (b : Bool). ((if b then did me.0 (Stood place) else refused me.0 p n), me.1)) (sym (zero_test (mark_in n) bare)),
+      ))
+      (λ taken. (
+        refused me.0 p n,
+        keeps,
+        tt,
+        refuses stands spans counted told s r id me.0 (seat, live) place p low named taken,
+        ap (λ (b : Bool). ((if b then did me.0 (Stood place) else refused me.0 p n), me.1)) (sym (zero_not (mark_in n) taken)),
+      )))
 
   pub mark_call : (at aim w j p : ℕ) → at ≡ unit_at p → aim ≡ p → w ≡ unit_word 0 (me.0.row + 1) (j + 1) → HasInSpace told me.0 j p → marks_of me.0.log p ≡ false
       → Allows Rule slots id me at (λ _. w) (λ _. play.marks aim (step slots at w 0 none) me w)
@@ -76,19 +90,37 @@ module _ {V : Type 0} (stands : Told → List Done → List Done → ℕ → V �
         let of_space : (j : ℕ) → HasInSpace told me.0 j p → space_in n ≡ j + 1 = λ j has. found ∙ in_space stands spans counted told s r id me.0 (seat, live) j p has in
         let plain : is_steady told me.0 p ≡ true → space_in n ≡ 0 = λ is. found ∙ (steady_is stands spans counted told frame s r id me.0 (seat, live) p is).1 in
         dite (ℕ_discrete (space_in n) 0)
-        (λ bare. (knew me.0 p, keeps, tt, looks stands spans counted told s r id me.0 (seat, live) frame alike p low knows bare,
-            (ap (λ (b : Bool). ((if b then knew me.0 p else me.0), me.1)) (sym (zero_test (space_in n) bare)), of_space, plain)))
-        (λ taken. (me.0, keeps, tt, stays_same stands spans counted told s r id me.0 (seat, live) (unit_at p),
-            (ap (λ (b : Bool). ((if b then knew me.0 p else me.0), me.1)) (sym (zero_not (space_in n) taken)), of_space, plain))))
+        (λ bare. (
+          knew me.0 p,
+          keeps,
+          tt,
+          looks stands spans counted told s r id me.0 (seat, live) frame alike p low knows bare,
+          (ap (λ (b : Bool). ((if b then knew me.0 p else me.0), me.1)) (sym (zero_test (space_in n) bare)), of_space, plain),
+        ))
+        (λ taken. (
+          me.0,
+          keeps,
+          tt,
+          stays_same stands spans counted told s r id me.0 (seat, live) (unit_at p),
+          (ap (λ (b : Bool). ((if b then knew me.0 p else me.0), me.1)) (sym (zero_not (space_in n) taken)), of_space, plain),
+        )))
 
     pub settle_in_call : (at aim_row aim w j q : ℕ) → at ≡ unit_at q → aim_row ≡ space_unit told.pages j → aim ≡ q → w ≡ unit_word 0 0 (j + 1) → MaySettle told me.0 q → j < 32 → holds_of me.0.holds (space_unit told.pages j) ≡ true
         → Allows Rule slots id me at (λ _. w) (λ _. play.settles_in aim aim_row (step slots at w 0 none) me w)
-    settle_in_call at aim_row aim w j q is aimed_row aimed word may low holds = rw (is, aimed_row, aimed, word) (λ s r deep seat fits.
-        (settled_in me.0 q (space_unit told.pages j) (unmark_log me.0.log q), keeps, tt, settles_in stands spans counted told frame s r id me.0 (seat, live) q may j low holds,
-         (refl, not_held stands spans counted told frame s r id me.0 (seat, live) q may)))
+    settle_in_call at aim_row aim w j q is aimed_row aimed word may low holds = rw (is, aimed_row, aimed, word) (λ s r deep seat fits. (
+      settled_in me.0 q (space_unit told.pages j) (unmark_log me.0.log q),
+      keeps,
+      tt,
+      settles_in stands spans counted told frame s r id me.0 (seat, live) q may j low holds,
+      (refl, not_held stands spans counted told frame s r id me.0 (seat, live) q may),
+    ))
 
     pub settle_held_call : (at aim w q : ℕ) → at ≡ unit_at q → aim ≡ q → w ≡ unit_word (me.0.row + 1) 0 0 → MaySettle told me.0 q
         → Allows Rule slots id me at (λ _. w) (λ _. play.settles_held aim (step slots at w 0 none) me w)
-    settle_held_call at aim w q is aimed word may = rw (is, aimed, word) (λ s r deep seat fits.
-        (settled_held me.0 q (unmark_log me.0.log q), takes q None, at_home stands spans counted told frame s r id me.0 (seat, live) q may, settles_held stands spans counted told frame s r id me.0 (seat, live) q may,
-         (refl, not_held stands spans counted told frame s r id me.0 (seat, live) q may)))
+    settle_held_call at aim w q is aimed word may = rw (is, aimed, word) (λ s r deep seat fits. (
+      settled_held me.0 q (unmark_log me.0.log q),
+      takes q None,
+      at_home stands spans counted told frame s r id me.0 (seat, live) q may,
+      settles_held stands spans counted told frame s r id me.0 (seat, live) q may,
+      (refl, not_held stands spans counted told frame s r id me.0 (seat, live) q may),
+    ))

@@ -123,7 +123,7 @@ module _ {V : Type 0} (stands : Told → List Done → List Done → ℕ → V �
         let may : admits told.pages r.machine (Store v.row place n) ≡ true = grind (arith, nat_tests, low, row_low) in
         row_step (stored r.machine (spot v.row place) n) (set s.words (spot v.row place) n) (Stored place n ∷ v.log) v.refusals
         (event_keeps told.pages r.machine (λ k. row_view (r.crew k)) (moves_of r.history) r.rows v.row (Store v.row place n) (stored r.machine (spot v.row place) n) (Stored place n ∷ v.log)
-            refl here_lives (may, tt) refl (store_frame r.machine v.row place n low) (λ p is. inl refl) (store_knows told.pages r.machine v.row place n v.log knows_row))
+        refl here_lives (may, tt) refl (store_frame r.machine v.row place n low) (λ p is. inl refl) (store_knows told.pages r.machine v.row place n v.log knows_row))
         (encode_row told.pages r.machine.word r.holder r.machine.mark r.space r.counter s.words r.words (spot v.row place) n at)
         r.paged
 
@@ -137,7 +137,7 @@ module _ {V : Type 0} (stands : Told → List Done → List Done → ℕ → V �
         let m' : Machine = read_off told.pages r.machine v.row (spot row place) in
         row_step m' (set s.words (spot row place) n) (Found row place n ∷ v.log) v.refusals
         (event_keeps told.pages r.machine (λ k. row_view (r.crew k)) (moves_of r.history) r.rows v.row (Read v.row row place) m' (Found row place n ∷ v.log)
-            refl here_lives (may, tt) refl (read_frame told.pages r.machine v.row (spot row place)) (λ p is. inl refl) (read_knows told.pages r.machine v.row row place n v.log (r.words.rows (spot row place) at) knows_row))
+        refl here_lives (may, tt) refl (read_frame told.pages r.machine v.row (spot row place)) (λ p is. inl refl) (read_knows told.pages r.machine v.row row place n v.log (r.words.rows (spot row place) at) knows_row))
         (encode_same told.pages r.machine.word r.holder r.machine.mark r.space r.counter s.words r.words (spot row place))
         r.paged
 
@@ -175,7 +175,7 @@ module _ {V : Type 0} (stands : Told → List Done → List Done → ℕ → V �
         let does : effect told.pages r.machine (Validate v.row place) ≡ m' = ap (λ b. record r.machine { stands = if b then put r.machine.stands (spot v.row place) true else r.machine.stands }) test in
         row_step m' (set s.words (unit_at p) (get_or s.words (unit_at p) 0)) (Stood place ∷ v.log) v.refusals
         (event_keeps told.pages r.machine (λ k. row_view (r.crew k)) (moves_of r.history) r.rows v.row (Validate v.row place) m' (Stood place ∷ v.log)
-            refl here_lives (may, tt) does (stand_frame r.machine v.row place low) (λ q is. inl refl) (stand_knows told.pages r.machine v.row place v.log knows_row))
+        refl here_lives (may, tt) does (stand_frame r.machine v.row place low) (λ q is. inl refl) (stand_knows told.pages r.machine v.row place v.log knows_row))
         (encode_same told.pages r.machine.word r.holder r.machine.mark r.space r.counter s.words r.words (unit_at p))
         r.paged
 
@@ -190,7 +190,7 @@ module _ {V : Type 0} (stands : Told → List Done → List Done → ℕ → V �
         let does : effect told.pages r.machine (Validate v.row place) ≡ r.machine = ap (λ b. record r.machine { stands = if b then put r.machine.stands (spot v.row place) true else r.machine.stands }) test in
         row_step r.machine (set s.words (unit_at p) (get_or s.words (unit_at p) 0)) v.log (record { unit = p; word = get_or s.words (unit_at p) 0 } ∷ v.refusals)
         (event_keeps told.pages r.machine (λ k. row_view (r.crew k)) (moves_of r.history) r.rows v.row (Validate v.row place) r.machine v.log
-            refl here_lives (may, tt) does (same_frame r.machine v.row) (λ q is. inl refl) knows_row)
+        refl here_lives (may, tt) does (same_frame r.machine v.row) (λ q is. inl refl) knows_row)
         (encode_same told.pages r.machine.word r.holder r.machine.mark r.space r.counter s.words r.words (unit_at p))
         r.paged
 
@@ -224,19 +224,19 @@ module _ {V : Type 0} (stands : Told → List Done → List Done → ℕ → V �
         let owner : r.holder (space_unit told.pages j) ≡ v.row + 1 = holds_unit (space_unit told.pages j) has.1 in
         let owner_is : r.holder (space_unit told.pages (r.space p - 1)) ≡ v.row + 1 = ap (λ (n : ℕ). r.holder (space_unit told.pages n)) (let e : r.space p - 1 ≡ j = omega (arith, space) in e) ∙ owner in
         let free : r.machine.mark p ≡ 0 = dite (ℕ_discrete (r.machine.mark p) 0) (λ e. e)
-            (λ o. let mine : r.machine.mark p ≡ v.row + 1 = sym (r.paged.marks p o).1 ∙ owner_is in let k = knows_row.marks p in absurd (let a : (r.machine.mark p == v.row + 1) ≡ true = equal_test (r.machine.mark p) (v.row + 1) mine in cc)) in
+        (λ o. let mine : r.machine.mark p ≡ v.row + 1 = sym (r.paged.marks p o).1 ∙ owner_is in let k = knows_row.marks p in absurd (let a : (r.machine.mark p == v.row + 1) ≡ true = equal_test (r.machine.mark p) (v.row + 1) mine in cc)) in
         let m' : Machine = marked r.machine p (v.row + 1) in
         let may : admits told.pages r.machine (Mark v.row p) ≡ true = may_mark told.pages v.row p r.machine row_low low free in
         let e = encode_unit told.pages r.machine.word r.holder r.machine.mark r.space r.counter s.words r.words p 0 (v.row + 1) (j + 1) (omega (arith, low)) in
         row_step m' (set s.words (unit_at p) (unit_word 0 (v.row + 1) (j + 1))) (Marked p ∷ v.log) v.refusals
         (event_keeps told.pages r.machine (λ k. row_view (r.crew k)) (moves_of r.history) r.rows v.row (Mark v.row p) m' (Marked p ∷ v.log)
-            refl here_lives (may, tt) refl (mark_frame r.machine v.row p (v.row + 1) (inl free) (inr refl))
-            (λ q is. put_cases (λ x. (r.machine.mark q ≡ x) ⊎ ((q < told.pages) × (x ≡ v.row + 1))) r.machine.mark p (v.row + 1) q (λ here. inr (subst (λ n. n < told.pages) (sym here) low, refl)) (λ _. inl refl))
-            (mark_knows told.pages r.machine v.row p v.log knows_row))
+        refl here_lives (may, tt) refl (mark_frame r.machine v.row p (v.row + 1) (inl free) (inr refl))
+        (λ q is. put_cases (λ x. (r.machine.mark q ≡ x) ⊎ ((q < told.pages) × (x ≡ v.row + 1))) r.machine.mark p (v.row + 1) q (λ here. inr (subst (λ n. n < told.pages) (sym here) low, refl)) (λ _. inl refl))
+        (mark_knows told.pages r.machine v.row p v.log knows_row))
         (subst (λ (z : (ℕ → ℕ) × (ℕ → ℕ)). Encodes told.pages r.machine.word z.0 m'.mark z.1 r.counter (set s.words (unit_at p) (unit_word 0 (v.row + 1) (j + 1))))
-            (λ i. (put_same r.holder p 0 (sym vol.1) i, put_same r.space p (j + 1) (sym space) i)) e)
+        (λ i. (put_same r.holder p 0 (sym vol.1) i, put_same r.space p (j + 1) (sym space) i)) e)
         (marks_part None (spans_in spans) told.pages told.frontier (names_page told) (r.counter 0) r.used r.machine.mark r.space r.holder r.history s.homes (λ k. page_view (r.crew k)) r.paged p (v.row + 1)
-            (λ _. ((λ e. omega (arith, e, space)), owner_is)))
+        (λ _. ((λ e. omega (arith, e, space)), owner_is)))
 
     -- the mark taken off
     pub unmarks : (j p : ℕ) → HasInSpace told v j p → marks_of v.log p ≡ true
@@ -251,18 +251,18 @@ module _ {V : Type 0} (stands : Told → List Done → List Done → ℕ → V �
         let e = encode_unit told.pages r.machine.word r.holder r.machine.mark r.space r.counter s.words r.words p 0 0 (j + 1) (omega (arith, low)) in
         row_step m' (set s.words (unit_at p) (unit_word 0 0 (j + 1))) (Unmarked p ∷ v.log) v.refusals
         (event_keeps told.pages r.machine (λ k. row_view (r.crew k)) (moves_of r.history) r.rows v.row (Unmark v.row p) m' (Unmarked p ∷ v.log)
-            refl here_lives (may, tt) refl (mark_frame r.machine v.row p 0 (inr mine) (inl refl))
-            (λ q is. inl (sym (put_else r.machine.mark p 0 q (λ here. is (put_at r.machine.mark p 0 q here)))))
-            (unmark_knows told.pages r.machine v.row p v.log knows_row))
+        refl here_lives (may, tt) refl (mark_frame r.machine v.row p 0 (inr mine) (inl refl))
+        (λ q is. inl (sym (put_else r.machine.mark p 0 q (λ here. is (put_at r.machine.mark p 0 q here)))))
+        (unmark_knows told.pages r.machine v.row p v.log knows_row))
         (subst (λ (z : (ℕ → ℕ) × (ℕ → ℕ)). Encodes told.pages r.machine.word z.0 m'.mark z.1 r.counter (set s.words (unit_at p) (unit_word 0 0 (j + 1))))
-            (λ i. (put_same r.holder p 0 (sym vol.1) i, put_same r.space p (j + 1) (sym space) i)) e)
+        (λ i. (put_same r.holder p 0 (sym vol.1) i, put_same r.space p (j + 1) (sym space) i)) e)
         (marks_part None (spans_in spans) told.pages told.frontier (names_page told) (r.counter 0) r.used r.machine.mark r.space r.holder r.history s.homes (λ k. page_view (r.crew k)) r.paged p 0
-            (λ o. absurd (o refl)))
+        (λ o. absurd (o refl)))
 
     -- a load of a unit's word that is not 0, by one that is refused the unit
     pub refuses_unit : (u i : ℕ) → Rule record { words = set s.words i (get_or s.words i 0); homes = s.homes; views = set s.views id (refused v u (get_or s.words i 0)) }
     refuses_unit u i = row_step r.machine (set s.words i (get_or s.words i 0)) v.log (record { unit = u; word = get_or s.words i 0 } ∷ v.refusals)
         (subst (λ (f : ℕ → RowView). RowsRule told.pages (moves_of r.history) r.machine f)
-            (sym (put_same (λ k. row_view (r.crew k)) v.row (row_with v.log) (λ j. record { live = sym here_lives j; log = (sym here_is j).log }))) r.rows)
+        (sym (put_same (λ k. row_view (r.crew k)) v.row (row_with v.log) (λ j. record { live = sym here_lives j; log = (sym here_is j).log }))) r.rows)
         (encode_same told.pages r.machine.word r.holder r.machine.mark r.space r.counter s.words r.words i)
         r.paged

@@ -85,13 +85,13 @@ module _ (pages : ℕ) (m : Machine) (crew : ℕ → RowView) (done : List Event
             (λ other alive. others_know pages m m' k j (crew j).log other f (r.known j alive));
         marked = λ p is. ⊎_elim
             (λ same. let was = r.marked p (λ zero. is (sym same ∙ zero)) in
-                (was.0, (was.1.0, sym same ∙ was.1.1, put_cases (λ v. v.live ≡ true) crew k (row_with ds) was.1.0 (λ _. refl) (λ _. was.1.2))))
+            (was.0, (was.1.0, sym same ∙ was.1.1, put_cases (λ v. v.live ≡ true) crew k (row_with ds) was.1.0 (λ _. refl) (λ _. was.1.2))))
             (λ mine. (mine.0, (k, mine.1, put_cases (λ v. v.live ≡ true) crew k (row_with ds) k (λ _. refl) (λ other. absurd (other refl)))))
             (marks p is);
         idle = λ j below. put_cases (λ v. v.live ≡ false → (q : ℕ) → q < ROW_PLACES → (m'.word (spot j q) ≡ 0) × (m'.stands (spot j q) ≡ false)) crew k (row_with ds) j
             (λ here dead. absurd (cc))
             (λ other dead q b. let was = r.idle j below dead q b in
-                (f.words j q other b ∙ was.0, f.stands j q other b ∙ was.1));
+            (f.words j q other b ∙ was.0, f.stands j q other b ∙ was.1));
       }
 
 -- two places are one only in one row
@@ -170,10 +170,10 @@ read_knows pages m k row place w log is know = record {
       let tests : (marks_of log p && not (names pages w p)) ≡ test = λ i. know.marks p i && not (names pages (is i) p) in
       ap (λ (c : Bool). (if c then put (reads_of pages log p) (spot row place) true else reads_of pages log p) n) tests
       ∙ picked test (put (reads_of pages log p) (spot row place) true) (put (m.read p) (spot row place) true) (reads_of pages log p) (m.read p) n
-          (put_cases (λ y. y ≡ put (m.read p) (spot row place) true n) (reads_of pages log p) (spot row place) true n
-              (λ here. sym (put_at (m.read p) (spot row place) true n here))
-              (λ other. know.reads p n mine ∙ sym (put_else (m.read p) (spot row place) true n other)))
-          (know.reads p n mine);
+      (put_cases (λ y. y ≡ put (m.read p) (spot row place) true n) (reads_of pages log p) (spot row place) true n
+      (λ here. sym (put_at (m.read p) (spot row place) true n here))
+      (λ other. know.reads p n mine ∙ sym (put_else (m.read p) (spot row place) true n other)))
+      (know.reads p n mine);
 }
 
 -- k marks a page, or takes its mark off
@@ -189,6 +189,7 @@ mark_frame m k page mark was is = record {
   where
     foreign : (x r : ℕ) → r ≢ k → (x ≡ 0) ⊎ (x ≡ k + 1) → (x == r + 1) ≡ false
     foreign x r other c = ⊎_elim (λ z. grind (arith, nat_tests, z)) (λ z. grind (arith, nat_tests, z, other)) c
+
     both_false : (a b : Bool) → a ≡ false → b ≡ false → a ≡ b
     both_false a b x y = x ∙ sym y
 

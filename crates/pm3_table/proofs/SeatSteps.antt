@@ -88,9 +88,9 @@ seated_more views crew r n x dead row live low =
           (λ _ alive. let s = r.sits k alive in (s.0, (at_longer views (x ∷ []) s.0 (crew k) s.1.0, s.1.1), s.2));
       apart = λ i j y z ly lz same. ⊎_elim
           (λ old. ⊎_elim (λ old'. r.apart i j y z (old, ly.1) (old', lz.1) same)
-              (λ new. absurd (fresh i y (old, ly.1) (same ∙ (ap (λ (v : View). v.row) (sym new.1) ∙ row)))) (at_end views x z j lz.0))
+          (λ new. absurd (fresh i y (old, ly.1) (same ∙ (ap (λ (v : View). v.row) (sym new.1) ∙ row)))) (at_end views x z j lz.0))
           (λ new. ⊎_elim (λ old. absurd (fresh j z (old, lz.1) (sym same ∙ (ap (λ (v : View). v.row) (sym new.1) ∙ row))))
-              (λ new'. new.0 ∙ sym new'.0) (at_end views x z j lz.0))
+          (λ new'. new.0 ∙ sym new'.0) (at_end views x z j lz.0))
           (at_end views x y i ly.0);
       below = λ k. put_cases (λ v. v.live ≡ true → k < 32) crew n x k (λ e _. subst (λ (i : ℕ). i < 32) (sym e) low) (λ _. r.below k);
     }
@@ -98,13 +98,13 @@ seated_more views crew r n x dead row live low =
 seated_end : (views : List View) (crew : ℕ → View) → Seated views crew → (j : ℕ) (x u : View) → Lives views j x → u.live ≡ false → Seated (set views j u) (put crew x.row u)
 seated_end views crew r j x u l dead =
     let old : (i : ℕ) (y : View) → Lives (set views j u) i y → (i ≢ j) × Lives views i y = λ i y ly. ⊎_elim
-        (λ (t : (i ≡ j) × (u ≡ y)). not_dead ((i ≢ j) × Lives views i y) ly.1 (ap (λ (v : View). v.live) (sym t.1) ∙ dead))
-        (λ (t : (i ≢ j) × (get_elem? views i ≡ some y)). (t.0, (t.1, ly.1))) (at_set views j i u y ly.0) in record {
+    (λ (t : (i ≡ j) × (u ≡ y)). not_dead ((i ≢ j) × Lives views i y) ly.1 (ap (λ (v : View). v.live) (sym t.1) ∙ dead))
+    (λ (t : (i ≢ j) × (get_elem? views i ≡ some y)). (t.0, (t.1, ly.1))) (at_set views j i u y ly.0) in record {
       knows = λ i y ly. let o = old i y ly in put_else crew x.row u y.row (λ e. o.0 (r.apart i j y x o.1 l e)) ∙ r.knows i y o.1;
       sits = λ k. put_cases (λ v. v.live ≡ true → (id : ℕ) × Lives (set views j u) id v × (v.row ≡ k)) crew x.row u k
           (λ _ live. absurd (not_dead ⊥ live dead))
           (λ o live. let s = r.sits k live in
-              (s.0, (set_else views j s.0 u (λ e. o (sym s.2 ∙ ap (λ (v : View). v.row) (some-injective (crew k) x (sym s.1.0 ∙ (ap (get_elem? views) e ∙ l.0))))) ∙ s.1.0, s.1.1), s.2));
+          (s.0, (set_else views j s.0 u (λ e. o (sym s.2 ∙ ap (λ (v : View). v.row) (some-injective (crew k) x (sym s.1.0 ∙ (ap (get_elem? views) e ∙ l.0))))) ∙ s.1.0, s.1.1), s.2));
       apart = λ i k y z ly lz same. r.apart i k y z (old i y ly).1 (old k z lz).1 same;
       below = λ k. put_cases (λ v. v.live ≡ true → k < 32) crew x.row u k (λ _ live. absurd (not_dead ⊥ live dead)) (λ _. r.below k);
     }
@@ -121,8 +121,8 @@ last_two : (crew : ℕ → LastView) → LastRule crew → (k n : ℕ) → (crew
 last_two crew r k n alive w x not_w not_x i = put_cases (λ v. v.live ≡ true → v.last ≡ true → (j : ℕ) → (put (put crew k w) n x j).live ≡ true → j ≡ i) (put crew k w) n x i
     (λ _ live is. absurd (⊎_elim (λ a. not_dead ⊥ live a) (λ a. not_dead ⊥ is a) not_x))
     (λ _. put_cases (λ v. v.live ≡ true → v.last ≡ true → (j : ℕ) → (put (put crew k w) n x j).live ≡ true → j ≡ i) crew k w i
-        (λ _ _ is. absurd (not_dead ⊥ is not_w))
-        (λ o live is j _. absurd (o (sym (r i live is k alive)))))
+    (λ _ _ is. absurd (not_dead ⊥ is not_w))
+    (λ o live is j _. absurd (o (sym (r i live is k alive)))))
 
 module _ {V : Type 0} (stands : Told → List Done → List Done → ℕ → V → Type 0) (spans : V → List ℕ) (counted : V → ℕ) (told : Told) where
   abbrev S : Type 0
@@ -157,26 +157,33 @@ module _ {V : Type 0} (stands : Told → List Done → List Done → ℕ → V �
         record {
           crew = put (put r.crew k w) n x;
           seated = seated_more (set s.views id w) (put r.crew k w) seated1 n x dead1 refl refl low;
-          machine = r.machine; holder = r.holder; space = r.space; used = r.used; counter = r.counter; history = r.history; lost = r.lost; words = r.words;
+          machine = r.machine;
+          holder = r.holder;
+          space = r.space;
+          used = r.used;
+          counter = r.counter;
+          history = r.history;
+          lost = r.lost;
+          words = r.words;
           rows = one_view r.crew k n w x row_view (RowsRule told.pages (moves_of r.history) r.machine) (λ i. row_view (sym here i))
               (rows_enter told.pages r.machine (λ j. row_view (r.crew j)) (moves_of r.history) r.rows n low fresh.0);
           units = one_view r.crew k n w x unit_view (UnitsRule (Good stands told r.lost) (counted_in counted) turn (names told) r.holder r.history s.homes) (λ i. unit_view (sym here i))
               (subst (λ (y : View). UnitsRule (Good stands told r.lost) (counted_in counted) turn (names told) r.holder r.history s.homes (put (λ j. unit_view (r.crew j)) n (unit_with [] y.seen y.faults))) here
-                  (units_enter (Good stands told r.lost) (counted_in counted) turn (names told) r.holder r.history s.homes (λ j. unit_view (r.crew j)) r.units k n alive fresh.0));
+              (units_enter (Good stands told r.lost) (counted_in counted) turn (names told) r.holder r.history s.homes (λ j. unit_view (r.crew j)) r.units k n alive fresh.0));
           paged = one_view r.crew k n w x page_view (PagesRule None (spans_in spans) told.pages told.frontier (names_page told) (r.counter 0) r.used r.machine.mark r.space r.holder r.history s.homes) (λ i. page_view (sym here i))
               (subst (λ (y : View). PagesRule None (spans_in spans) told.pages told.frontier (names_page told) (r.counter 0) r.used r.machine.mark r.space r.holder r.history s.homes (put (λ j. page_view (r.crew j)) n (page_with [] [] y.steady []))) here
-                  (pages_enter None (spans_in spans) told.pages told.frontier (names_page told) (r.counter 0) r.used r.machine.mark r.space r.holder r.history s.homes (λ j. page_view (r.crew j)) r.paged k n alive));
+              (pages_enter None (spans_in spans) told.pages told.frontier (names_page told) (r.counter 0) r.used r.machine.mark r.space r.holder r.history s.homes (λ j. page_view (r.crew j)) r.paged k n alive));
           draws = two_views r.crew k n w x draw_view (DrawsRule (limit told) (first told) r.counter)
               (draws_two (limit told) (first told) r.counter (λ j. draw_view (r.crew j)) r.draws k n (row_low stands spans counted told s r id v l) low apart (draw_view w) (draw_view x)
-                  (λ _ c is. r.draws.full k alive c (ap (λ (y : View). is_in c y.filled) here ∙ is)) (λ _ c is. absurd (cc))
-                  (λ c small. subst (λ (y : View). drew c (draw_view w) + drew c (draw_view x) ≡ drew c (draw_view y) + drew c (draw_view (r.crew n))) (sym here) (split_drew c small v (r.crew n) n rows l.1 fresh.0 had))
-                  (λ c. subst (λ (y : View). is_drawing c (draw_view w) + is_drawing c (draw_view x) ≡ is_drawing c (draw_view y) + is_drawing c (draw_view (r.crew n))) (sym here) (split_busy c v (r.crew n) n rows fresh.0)));
+              (λ _ c is. r.draws.full k alive c (ap (λ (y : View). is_in c y.filled) here ∙ is)) (λ _ c is. absurd (cc))
+              (λ c small. subst (λ (y : View). drew c (draw_view w) + drew c (draw_view x) ≡ drew c (draw_view y) + drew c (draw_view (r.crew n))) (sym here) (split_drew c small v (r.crew n) n rows l.1 fresh.0 had))
+              (λ c. subst (λ (y : View). is_drawing c (draw_view w) + is_drawing c (draw_view x) ≡ is_drawing c (draw_view y) + is_drawing c (draw_view (r.crew n))) (sym here) (split_busy c v (r.crew n) n rows fresh.0)));
           named = one_view r.crew k n w x name_view (NamesRule makes told.next_name (r.counter 1) r.history) (λ i. name_view (sym here i))
               (names_enter makes told.next_name (r.counter 1) r.history (λ j. name_view (r.crew j)) r.named n);
           counts = two_views r.crew k n w x count_view (CountsRule (min (r.counter 2) 32) r.history)
               (subst (λ (y : CountView). CountsRule (min (r.counter 2) 32) r.history (put (put (λ j. count_view (r.crew j)) k y) n (count_with [] [] [])))
-                  (λ i. record { live = sym l.1 i; rows = rows; mine = (here i).mine; kept = (here i).kept })
-                  (counts_enter (min (r.counter 2) 32) r.history (λ j. count_view (r.crew j)) r.counts k n rows alive drew_it));
+              (λ i. record { live = sym l.1 i; rows = rows; mine = (here i).mine; kept = (here i).kept })
+              (counts_enter (min (r.counter 2) 32) r.history (λ j. count_view (r.crew j)) r.counts k n rows alive drew_it));
           failed = one_view r.crew k n w x lost_view (LostRule (r.holder turn) r.lost) (λ i. lost_view (sym here i))
               (lost_enter (r.holder turn) r.lost (λ j. lost_view (r.crew j)) r.failed n fresh.0 (away turn));
           lasts = two_views r.crew k n w x last_view LastRule (last_two (λ j. last_view (r.crew j)) r.lasts k n alive (last_view w) (last_view x) refl (inr refl));
@@ -203,36 +210,43 @@ module _ {V : Type 0} (stands : Told → List Done → List Done → ℕ → V �
         record {
           crew = put (put r.crew k w) n spent_view;
           seated = seated_end (set s.views id w) (put r.crew k w) seated1 other x spent_view (at, lives_x) refl;
-          machine = r.machine; holder = r.holder; space = r.space; used = r.used; counter = r.counter; history = r.history; lost = r.lost; words = r.words;
+          machine = r.machine;
+          holder = r.holder;
+          space = r.space;
+          used = r.used;
+          counter = r.counter;
+          history = r.history;
+          lost = r.lost;
+          words = r.words;
           rows = one_view r.crew k n w spent_view row_view (RowsRule told.pages (moves_of r.history) r.machine) (λ i. row_view (sym here i))
               (rows_leave told.pages r.machine (λ j. row_view (r.crew j)) (moves_of r.history) r.rows n (row_view spent_view) refl other_lives
-                  (λ p. ap (λ (y : View). marks_of y.log p) there ∙ blank.marks p) (λ q b. ap (λ (y : View). word_of y.log q) there ∙ blank.row q b));
+              (λ p. ap (λ (y : View). marks_of y.log p) there ∙ blank.marks p) (λ q b. ap (λ (y : View). word_of y.log q) there ∙ blank.row q b));
           units = two_views r.crew k n w spent_view unit_view (UnitsRule (Good stands told r.lost) (counted_in counted) turn (names told) r.holder r.history s.homes)
               (subst (λ (y : UnitView). UnitsRule (Good stands told r.lost) (counted_in counted) turn (names told) r.holder r.history s.homes (put (put (λ j. unit_view (r.crew j)) k y) n (unit_view spent_view)))
-                  (λ i. record { live = sym l.1 i; holds = (here i).holds; seen = longer (here i).seen (there i).seen; faults = max (here i).faults (there i).faults })
-                  (units_absorb (Good stands told r.lost) (counted_in counted) turn (names told) r.holder r.history s.homes (λ j. unit_view (r.crew j)) r.units k n apart alive other_lives (λ u. ap (λ (y : View). holds_of y.holds u) there ∙ blank.holds u) (unit_view spent_view) refl));
+              (λ i. record { live = sym l.1 i; holds = (here i).holds; seen = longer (here i).seen (there i).seen; faults = max (here i).faults (there i).faults })
+              (units_absorb (Good stands told r.lost) (counted_in counted) turn (names told) r.holder r.history s.homes (λ j. unit_view (r.crew j)) r.units k n apart alive other_lives (λ u. ap (λ (y : View). holds_of y.holds u) there ∙ blank.holds u) (unit_view spent_view) refl));
           paged = two_views r.crew k n w spent_view page_view (PagesRule None (spans_in spans) told.pages told.frontier (names_page told) (r.counter 0) r.used r.machine.mark r.space r.holder r.history s.homes)
               (subst (λ (y : PageView). PagesRule None (spans_in spans) told.pages told.frontier (names_page told) (r.counter 0) r.used r.machine.mark r.space r.holder r.history s.homes (put (put (λ j. page_view (r.crew j)) k y) n (page_view spent_view)))
-                  (λ i. record { live = sym l.1 i; holds = (here i).holds; spans = (here i).spans; steady = (here i).steady ++ (there i).steady; pages = (here i).pages ++ (there i).pages })
-                  (pages_absorb None (spans_in spans) told.pages told.frontier (names_page told) (r.counter 0) r.used r.machine.mark r.space r.holder r.history s.homes (λ j. page_view (r.crew j)) r.paged k n apart alive other_lives (page_view spent_view) refl));
+              (λ i. record { live = sym l.1 i; holds = (here i).holds; spans = (here i).spans; steady = (here i).steady ++ (there i).steady; pages = (here i).pages ++ (there i).pages })
+              (pages_absorb None (spans_in spans) told.pages told.frontier (names_page told) (r.counter 0) r.used r.machine.mark r.space r.holder r.history s.homes (λ j. page_view (r.crew j)) r.paged k n apart alive other_lives (page_view spent_view) refl));
           draws = two_views r.crew k n w spent_view draw_view (DrawsRule (limit told) (first told) r.counter)
               (draws_two (limit told) (first told) r.counter (λ j. draw_view (r.crew j)) r.draws k n (row_low stands spans counted told s r id v l) (r.seated.below n other_lives) apart (draw_view w) (draw_view spent_view)
-                  (λ _ c is. ⊎_elim (λ a. r.draws.full k alive c (ap (λ (y : View). is_in c y.filled) here ∙ a)) (λ a. r.draws.full n other_lives c (ap (λ (y : View). is_in c y.filled) there ∙ a)) (in_either c v.filled x.filled is))
-                  (λ e. absurd (cc))
-                  (λ c small. subst (λ (z : View × View). drew c (draw_view w) + drew c (draw_view spent_view) ≡ drew c (draw_view z.0) + drew c (draw_view z.1)) (λ i. (sym here i, sym there i)) (join_drew c small v x l.1 lives_x no_rows))
-                  (λ c. subst (λ (z : View × View). is_drawing c (draw_view w) + is_drawing c (draw_view spent_view) ≡ is_drawing c (draw_view z.0) + is_drawing c (draw_view z.1)) (λ i. (sym here i, sym there i)) (join_busy c v x idle)));
+              (λ _ c is. ⊎_elim (λ a. r.draws.full k alive c (ap (λ (y : View). is_in c y.filled) here ∙ a)) (λ a. r.draws.full n other_lives c (ap (λ (y : View). is_in c y.filled) there ∙ a)) (in_either c v.filled x.filled is))
+              (λ e. absurd (cc))
+              (λ c small. subst (λ (z : View × View). drew c (draw_view w) + drew c (draw_view spent_view) ≡ drew c (draw_view z.0) + drew c (draw_view z.1)) (λ i. (sym here i, sym there i)) (join_drew c small v x l.1 lives_x no_rows))
+              (λ c. subst (λ (z : View × View). is_drawing c (draw_view w) + is_drawing c (draw_view spent_view) ≡ is_drawing c (draw_view z.0) + is_drawing c (draw_view z.1)) (λ i. (sym here i, sym there i)) (join_busy c v x idle)));
           named = two_views r.crew k n w spent_view name_view (NamesRule makes told.next_name (r.counter 1) r.history)
               (subst (λ (y : NameView). NamesRule makes told.next_name (r.counter 1) r.history (put (put (λ j. name_view (r.crew j)) k y) n (name_view spent_view)))
-                  (λ i. record { live = sym l.1 i; names = (here i).names ++ (there i).names })
-                  (names_absorb makes told.next_name (r.counter 1) r.history (λ j. name_view (r.crew j)) r.named k n apart alive other_lives (name_view spent_view) refl));
+              (λ i. record { live = sym l.1 i; names = (here i).names ++ (there i).names })
+              (names_absorb makes told.next_name (r.counter 1) r.history (λ j. name_view (r.crew j)) r.named k n apart alive other_lives (name_view spent_view) refl));
           counts = two_views r.crew k n w spent_view count_view (CountsRule (min (r.counter 2) 32) r.history)
               (subst (λ (y : CountView). CountsRule (min (r.counter 2) 32) r.history (put (put (λ j. count_view (r.crew j)) k y) n (count_view spent_view)))
-                  (λ i. record { live = sym l.1 i; rows = (here i).rows; mine = (here i).mine; kept = record { mutator = n; commits = (there i).mine } ∷ ((there i).kept ++ (here i).kept) })
-                  (counts_absorb (min (r.counter 2) 32) r.history (λ j. count_view (r.crew j)) r.counts k n apart alive other_lives (ap (λ (y : View). y.rows) there ∙ no_rows) (count_view spent_view) refl));
+              (λ i. record { live = sym l.1 i; rows = (here i).rows; mine = (here i).mine; kept = record { mutator = n; commits = (there i).mine } ∷ ((there i).kept ++ (here i).kept) })
+              (counts_absorb (min (r.counter 2) 32) r.history (λ j. count_view (r.crew j)) r.counts k n apart alive other_lives (ap (λ (y : View). y.rows) there ∙ no_rows) (count_view spent_view) refl));
           failed = two_views r.crew k n w spent_view lost_view (LostRule (r.holder turn) r.lost)
               (subst (λ (y : LostView). LostRule (r.holder turn) r.lost (put (put (λ j. lost_view (r.crew j)) k y) n (lost_view spent_view)))
-                  (λ i. record { live = sym l.1 i; failed = (here i).failed ++ (there i).failed; lost = (here i).lost })
-                  (lost_absorb (r.holder turn) r.lost (λ j. lost_view (r.crew j)) r.failed k n apart alive other_lives away (lost_view spent_view) refl));
+              (λ i. record { live = sym l.1 i; failed = (here i).failed ++ (there i).failed; lost = (here i).lost })
+              (lost_absorb (r.holder turn) r.lost (λ j. lost_view (r.crew j)) r.failed k n apart alive other_lives away (lost_view spent_view) refl));
           lasts = two_views r.crew k n w spent_view last_view LastRule (last_two (λ j. last_view (r.crew j)) r.lasts k n alive (last_view w) (last_view spent_view) refl (inl refl));
           lawful = r.lawful;
           bounds = r.bounds;

@@ -81,7 +81,7 @@ module _ {V : Type 0} (stands : Told → List Done → List Done → ℕ → V �
     bounds_are : (told.frontier ≤ q) × (q < told.pages) × (q < r.counter 0)
     bounds_are = ⊎_elim (λ is. let d = is_drawn is in (d.0, d.1, d.2))
         (λ has. let a = in_space stands spans counted told s r id v l has.0 q has.1 in let o : r.space q ≢ 0 = (λ z. omega (arith, a, z)) in
-            let vol = r.paged.volatile q o in let low = r.paged.low q vol.2 in (vol.3, low.0, low.1)) may
+        let vol = r.paged.volatile q o in let low = r.paged.low q vol.2 in (vol.3, low.0, low.1)) may
 
     -- it is free, without a value, and no commit names it
     pub is_free : r.holder q ≡ 0
@@ -102,26 +102,30 @@ module _ {V : Type 0} (stands : Told → List Done → List Done → ℕ → V �
     own_mark : (r.machine.mark q ≡ 0) ⊎ (r.machine.mark q ≡ v.row + 1)
     own_mark = dite (ℕ_discrete (r.machine.mark q) 0) inl
         (λ o. let m = r.paged.marks q o in ⊎_elim
-            (λ is. absurd (m.0 (r.paged.blank q bounds_are.1 (is_drawn is).3).1))
-            (λ has. let sp = in_space stands spans counted told s r id v l has.0 q has.1 in
-                let at : r.space q - 1 ≡ has.0 = omega (arith, sp) in
-                inr (sym m.1 ∙ (ap (λ (n : ℕ). r.holder (space_unit told.pages n)) at ∙ holds_unit stands spans counted told s r id v l (space_unit told.pages has.0) has.1.1)))
-            may)
+        (λ is. absurd (m.0 (r.paged.blank q bounds_are.1 (is_drawn is).3).1))
+        (λ has. let sp = in_space stands spans counted told s r id v l has.0 q has.1 in
+        let at : r.space q - 1 ≡ has.0 = omega (arith, sp) in
+        inr (sym m.1 ∙ (ap (λ (n : ℕ). r.holder (space_unit told.pages n)) at ∙ holds_unit stands spans counted told s r id v l (space_unit told.pages has.0) has.1.1)))
+        may)
 
     -- the rows once the mark is taken off, if there is one
     rows_now : (b : Bool) → marks_of v.log q ≡ b → (m' : Machine) × Cleaned told.pages r.machine m' q × RowsRule told.pages (moves_of r.history) m' (put (λ k. row_view (r.crew k)) v.row (row_with (if b then (Unmarked q ∷ v.log) else v.log)))
     rows_now true is =
-        let mine : r.machine.mark q ≡ v.row + 1 = equal_by (r.machine.mark q) (v.row + 1) (sym ((knows_row stands spans counted told s r id v l).marks q) ∙ is) in
-        (marked r.machine q 0, record { word = refl; mark = refl },
-         event_keeps told.pages r.machine (λ k. row_view (r.crew k)) (moves_of r.history) r.rows v.row (Unmark v.row q) (marked r.machine q 0) (Unmarked q ∷ v.log)
-            refl (here_lives stands spans counted told s r id v l) (may_unmark told.pages v.row q r.machine (row_low stands spans counted told s r id v l) bounds_are.1 mine, tt) refl (mark_frame r.machine v.row q 0 (inr mine) (inl refl))
-            (λ p o. inl (sym (put_else r.machine.mark q 0 p (λ here. o (put_at r.machine.mark q 0 p here)))))
-            (unmark_knows told.pages r.machine v.row q v.log (knows_row stands spans counted told s r id v l)))
+        let mine : r.machine.mark q ≡ v.row + 1 = equal_by (r.machine.mark q) (v.row + 1) (sym ((knows_row stands spans counted told s r id v l).marks q) ∙ is) in (
+          marked r.machine q 0,
+          record { word = refl; mark = refl },
+          event_keeps told.pages r.machine (λ k. row_view (r.crew k)) (moves_of r.history) r.rows v.row (Unmark v.row q) (marked r.machine q 0) (Unmarked q ∷ v.log)
+              refl (here_lives stands spans counted told s r id v l) (may_unmark told.pages v.row q r.machine (row_low stands spans counted told s r id v l) bounds_are.1 mine, tt) refl (mark_frame r.machine v.row q 0 (inr mine) (inl refl))
+              (λ p o. inl (sym (put_else r.machine.mark q 0 p (λ here. o (put_at r.machine.mark q 0 p here)))))
+              (unmark_knows told.pages r.machine v.row q v.log (knows_row stands spans counted told s r id v l)),
+        )
     rows_now false is =
-        let bare : r.machine.mark q ≡ 0 = ⊎_elim (λ z. z) (λ mine. absurd (let a : marks_of v.log q ≡ true = (knows_row stands spans counted told s r id v l).marks q ∙ equal_test (r.machine.mark q) (v.row + 1) mine in cc)) own_mark in
-        (r.machine, record { word = refl; mark = sym (put_same r.machine.mark q 0 (sym bare)) },
-         subst (λ (f : ℕ → RowView). RowsRule told.pages (moves_of r.history) r.machine f)
-            (sym (put_same (λ k. row_view (r.crew k)) v.row (row_with v.log) (λ i. record { live = sym (here_lives stands spans counted told s r id v l) i; log = (sym (here_is stands spans counted told s r id v l) i).log }))) r.rows)
+        let bare : r.machine.mark q ≡ 0 = ⊎_elim (λ z. z) (λ mine. absurd (let a : marks_of v.log q ≡ true = (knows_row stands spans counted told s r id v l).marks q ∙ equal_test (r.machine.mark q) (v.row + 1) mine in cc)) own_mark in (
+          r.machine,
+          record { word = refl; mark = sym (put_same r.machine.mark q 0 (sym bare)) },
+          subst (λ (f : ℕ → RowView). RowsRule told.pages (moves_of r.history) r.machine f)
+              (sym (put_same (λ k. row_view (r.crew k)) v.row (row_with v.log) (λ i. record { live = sym (here_lives stands spans counted told s r id v l) i; log = (sym (here_is stands spans counted told s r id v l) i).log }))) r.rows,
+        )
 
     -- a space that the page leaves, or comes to, is the mutator's
     module _ (z : ℕ) (mine : (j : ℕ) → z ≡ j + 1 → holds_of v.holds (space_unit told.pages j) ≡ true) where
@@ -129,18 +133,19 @@ module _ {V : Type 0} (stands : Told → List Done → List Done → ℕ → V �
           → (get_elem? s.homes (space_unit told.pages j) ≡ some none) × ((i : ℕ) → i ≢ v.row → (r.crew i).live ≡ true → holds_of (r.crew i).holds (space_unit told.pages j) ≡ false)
       theirs j low either =
           let holds : holds_of v.holds (space_unit told.pages j) ≡ true = ⊎_elim
-                  (λ sp. ⊎_elim (λ is. absurd (let b = (r.paged.blank q bounds_are.1 (is_drawn is).3).1 in omega (arith, b, sp)))
-                      (λ has. let a = in_space stands spans counted told s r id v l has.0 q has.1 in let same : has.0 ≡ j = omega (arith, a, sp) in ap (λ (n : ℕ). holds_of v.holds (space_unit told.pages n)) (sym same) ∙ has.1.1) may)
-                  (mine j) either in
-          let held : r.holder (space_unit told.pages j) ≡ v.row + 1 = holds_unit stands spans counted told s r id v l (space_unit told.pages j) holds in
-          (r.units.out (space_unit told.pages j) (omega (arith, low)) (λ z0. omega (arith, z0, held)),
-           λ i o live. (r.units.known i live).holds (space_unit told.pages j) ∙ apart_test (r.holder (space_unit told.pages j)) i v.row o held)
+          (λ sp. ⊎_elim (λ is. absurd (let b = (r.paged.blank q bounds_are.1 (is_drawn is).3).1 in omega (arith, b, sp)))
+          (λ has. let a = in_space stands spans counted told s r id v l has.0 q has.1 in let same : has.0 ≡ j = omega (arith, a, sp) in ap (λ (n : ℕ). holds_of v.holds (space_unit told.pages n)) (sym same) ∙ has.1.1) may)
+          (mine j) either in
+          let held : r.holder (space_unit told.pages j) ≡ v.row + 1 = holds_unit stands spans counted told s r id v l (space_unit told.pages j) holds in (
+            r.units.out (space_unit told.pages j) (omega (arith, low)) (λ z0. omega (arith, z0, held)),
+            λ i o live. (r.units.known i live).holds (space_unit told.pages j) ∙ apart_test (r.holder (space_unit told.pages j)) i v.row o held,
+          )
 
       alone : (i : ℕ) → i ≢ v.row → (r.crew i).live ≡ true → is_in q (r.crew i).pages ≡ false
       alone i o live = ⊎_elim
           (λ y. absurd (⊎_elim
-              (λ is. o (r.paged.apart i v.row q live (here_lives stands spans counted told s r id v l) y (ap (λ (x : View). is_in q x.pages) (here_is stands spans counted told s r id v l) ∙ is)))
-              (λ has. let a = in_space stands spans counted told s r id v l has.0 q has.1 in let u = (r.paged.volatile q (λ e. omega (arith, a, e))).2 in let n = (r.paged.drawn i live q y).3 in cc) may))
+          (λ is. o (r.paged.apart i v.row q live (here_lives stands spans counted told s r id v l) y (ap (λ (x : View). is_in q x.pages) (here_is stands spans counted told s r id v l) ∙ is)))
+          (λ has. let a = in_space stands spans counted told s r id v l has.0 q has.1 in let u = (r.paged.volatile q (λ e. omega (arith, a, e))).2 in let n = (r.paged.drawn i live q y).3 in cc) may))
           (λ n. n) (yes_or_no (is_in q (r.crew i).pages))
 
     -- it becomes volatile, in a space that the view holds
@@ -172,7 +177,7 @@ module _ {V : Type 0} (stands : Told → List Done → List Done → ℕ → V �
               (page_with (r.crew v.row).holds (Went q (where_to told.pages (j + 1)) ∷ (r.crew v.row).spans) (r.crew v.row).steady (without_number q (r.crew v.row).pages))
               (λ i. record { live = sym live i; holds = (here i).holds; spans = Went q (goes told.pages j i) ∷ (here i).spans; steady = (here i).steady; pages = without_number q (here i).pages })
               (settle_part None (spans_in spans) told.pages told.frontier (names_page told) (r.counter 0) r.used r.machine.mark r.space r.holder r.history s.homes s.homes (λ k. page_view (r.crew k)) r.paged v.row (here_lives stands spans counted told s r id v l) q (j + 1) 0 (r.crew v.row).holds (r.crew v.row).steady
-                  bounds_are.1 bounds_are.0 bounds_are.2 fresh (alone (j + 1) mine) (omega (arith, low)) (λ _. refl) (theirs (j + 1) mine) (λ i _. refl) (λ _. refl) (λ i x. x) (λ p x. inl x)));
+              bounds_are.1 bounds_are.0 bounds_are.2 fresh (alone (j + 1) mine) (omega (arith, low)) (λ _. refl) (theirs (j + 1) mine) (λ i _. refl) (λ _. refl) (λ i x. x) (λ p x. inl x)));
           draws = unchanged s.views r.crew r.seated id v w l live refl draw_view (DrawsRule (limit told) (first told) r.counter) refl r.draws;
           named = unchanged s.views r.crew r.seated id v w l live refl name_view (NamesRule makes told.next_name (r.counter 1) r.history) refl r.named;
           counts = unchanged s.views r.crew r.seated id v w l live refl count_view (CountsRule (min (r.counter 2) 32) r.history) refl r.counts;
@@ -209,15 +214,15 @@ module _ {V : Type 0} (stands : Told → List Done → List Done → ℕ → V �
           units = at_view s.views r.crew r.seated id v w l live refl unit_view (UnitsRule (Good stands told r.lost) (counted_in counted) turn (names told) holder' r.history (set s.homes q none))
               (unit_with (Took q ∷ (r.crew v.row).holds) (r.crew v.row).seen (r.crew v.row).faults) (λ i. record { live = sym live i; holds = Took q ∷ (here i).holds; seen = (here i).seen; faults = (here i).faults })
               (holds_part (Good stands told r.lost) (counted_in counted) turn (names told) (good_frame stands spans counted told frame r.lost) r.holder r.history s.homes (λ k. unit_view (r.crew k)) r.units v.row (here_lives stands spans counted told s r id v l) q
-                  (let b = bounds_are.1 in omega (arith, b)) is_free no_commit);
+              (let b = bounds_are.1 in omega (arith, b)) is_free no_commit);
           paged = subst (λ (m : ℕ → ℕ). PagesRule None (spans_in spans) told.pages told.frontier (names_page told) (r.counter 0) (put r.used q true) m (put r.space q 0) holder' r.history (set s.homes q none) (λ k. page_view (put r.crew v.row w k))) (sym rows.1.mark)
               (at_view s.views r.crew r.seated id v w l live refl page_view (PagesRule None (spans_in spans) told.pages told.frontier (names_page told) (r.counter 0) (put r.used q true) (put r.machine.mark q 0) (put r.space q 0) holder' r.history (set s.homes q none))
               (page_with (Took q ∷ (r.crew v.row).holds) (Went q (where_to told.pages 0) ∷ (r.crew v.row).spans) (q ∷ (r.crew v.row).steady) (without_number q (r.crew v.row).pages))
               (λ i. record { live = sym live i; holds = Took q ∷ (here i).holds; spans = Went q 0 ∷ (here i).spans; steady = q ∷ (here i).steady; pages = without_number q (here i).pages })
               (settle_part None (spans_in spans) told.pages told.frontier (names_page told) (r.counter 0) r.used r.machine.mark r.space r.holder r.history s.homes (set s.homes q none) (λ k. page_view (r.crew k)) r.paged v.row (here_lives stands spans counted told s r id v l) q 0 (v.row + 1) (Took q ∷ (r.crew v.row).holds) (q ∷ (r.crew v.row).steady)
-                  bounds_are.1 bounds_are.0 bounds_are.2 fresh (alone 0 mine) (omega arith) (λ o. absurd (o refl)) (theirs 0 mine) (λ i o. set_else s.homes q i none o) (λ o. absurd (o refl))
-                  (λ i x. sym (put_else (holds_of (r.crew v.row).holds) q true (space_unit told.pages i) (λ at. let b = bounds_are.1 in omega (arith, at, b))) ∙ x)
-                  (λ p x. newer p q (r.crew v.row).steady x)));
+              bounds_are.1 bounds_are.0 bounds_are.2 fresh (alone 0 mine) (omega arith) (λ o. absurd (o refl)) (theirs 0 mine) (λ i o. set_else s.homes q i none o) (λ o. absurd (o refl))
+              (λ i x. sym (put_else (holds_of (r.crew v.row).holds) q true (space_unit told.pages i) (λ at. let b = bounds_are.1 in omega (arith, at, b))) ∙ x)
+              (λ p x. newer p q (r.crew v.row).steady x)));
           draws = unchanged s.views r.crew r.seated id v w l live refl draw_view (DrawsRule (limit told) (first told) r.counter) refl r.draws;
           named = unchanged s.views r.crew r.seated id v w l live refl name_view (NamesRule makes told.next_name (r.counter 1) r.history) refl r.named;
           counts = unchanged s.views r.crew r.seated id v w l live refl count_view (CountsRule (min (r.counter 2) 32) r.history) refl r.counts;

@@ -19,12 +19,12 @@ pub total_put : (n : ℕ) (f : ℕ → ℕ) (k x : ℕ) → k < n → total n (p
 total_put zero f k x below = absurd (omega arith)
 total_put (suc n) f k x below = dite (ℕ_discrete n k)
     (λ e. let here : put f k x n ≡ x = put_at f k x n e in
-        let rest : total n (put f k x) ≡ total n f = total_past n f k x (omega (arith, e)) in
-        let same : f n ≡ f k = ap f e in
-        omega arith)
+    let rest : total n (put f k x) ≡ total n f = total_past n f k x (omega (arith, e)) in
+    let same : f n ≡ f k = ap f e in
+    omega arith)
     (λ other. let here : put f k x n ≡ f n = put_else f k x n other in
-        let rest : total n (put f k x) + f k ≡ total n f + x = total_put n f k x (omega (arith, other, below)) in
-        omega arith)
+    let rest : total n (put f k x) + f k ≡ total n f + x = total_put n f k x (omega (arith, other, below)) in
+    omega arith)
 
 -- one summand is at most the sum
 pub total_part : (n : ℕ) (f : ℕ → ℕ) (k : ℕ) → k < n → f k ≤ total n f

@@ -96,7 +96,13 @@ regood : {S : Type 0} (good good' : List Done → ℕ → S → Type 0) (count :
 regood good good' count turn names holder history homes crew taken alike r = record {
   deep = r.deep;
   home = λ u low free. let was = r.home u low free in (was.0, was.1, alike history u was.0 (λ same. taken (ap holder (sym same) ∙ free)) was.2);
-  out = r.out; held = r.held; known = r.known; turn_sees = r.turn_sees; one_sees = r.one_sees; heard = r.heard; heard_out = r.heard_out;
+  out = r.out;
+  held = r.held;
+  known = r.known;
+  turn_sees = r.turn_sees;
+  one_sees = r.one_sees;
+  heard = r.heard;
+  heard_out = r.heard_out;
 }
 
 module _ {V : Type 0} (stands : Told → List Done → List Done → ℕ → V → Type 0) (spans : V → List ℕ) (counted : V → ℕ) (told : Told)
@@ -140,8 +146,8 @@ module _ {V : Type 0} (stands : Told → List Done → List Done → ℕ → V �
         (λ a. (steady_is stands spans counted told frame s r id v l p a).0)
         (some_space 32 p (omega arith))
         (λ a. let know = r.units.known v.row (here_lives stands spans counted told s r id v l) in
-            r.paged.named p (ap (λ (h : List Done). some_has (names_page told) h p) know.is
-                ∙ has_left (names_page told) (r.crew v.row).seen know.after p (ap (λ (x : View). some_has (names_page told) x.seen p) (here_is stands spans counted told s r id v l) ∙ a)))
+        r.paged.named p (ap (λ (h : List Done). some_has (names_page told) h p) know.is
+        ∙ has_left (names_page told) (r.crew v.row).seen know.after p (ap (λ (x : View). some_has (names_page told) x.seen p) (here_is stands spans counted told s r id v l) ∙ a)))
         is
       where
         three : (a b c : Bool) → (a ≡ true → r.used p ≡ true) → (b ≡ true → r.used p ≡ true) → (c ≡ true → r.used p ≡ true) → (a || (b || c)) ≡ true → r.used p ≡ true
@@ -184,25 +190,25 @@ module _ {V : Type 0} (stands : Told → List Done → List Done → ℕ → V �
               (λ i. (put_same r.machine.mark turn 0 (sym mk) i, put_same r.space turn 0 (sym sp) i)) e;
           rows = unchanged s.views r.crew seated id v w l live refl row_view (RowsRule told.pages (moves_of (r.history ++ more)) r.machine) refl
               (subst (λ (d : List Event). RowsRule told.pages d r.machine (λ k. row_view (r.crew k))) (sym (moves-append r.history more))
-                  (commits_part told.pages r.machine (λ k. row_view (r.crew k)) (moves_of r.history) r.rows v.row (row_low stands spans counted told s r id v l) more own (λ p is. cleared_is p (may.cleared p is))));
+              (commits_part told.pages r.machine (λ k. row_view (r.crew k)) (moves_of r.history) r.rows v.row (row_low stands spans counted told s r id v l) more own (λ p is. cleared_is p (may.cleared p is))));
           units = at_view s.views r.crew seated id v w l live refl unit_view (UnitsRule (Good stands told lost') (counted_in counted) turn (names told) holder' (r.history ++ more) (list.set s.homes turn (some x)))
               (unit_with (Gave turn ∷ (r.crew v.row).holds) ((r.crew v.row).seen ++ more) (counted_in counted x))
               (λ i. record { live = sym live i; holds = Gave turn ∷ (here i).holds; seen = (here i).seen ++ more; faults = counted_in counted x })
               (gives_part (Good stands told lost') (counted_in counted) turn (names told) (good_frame stands spans counted told frame lost') r.holder r.history s.homes (λ k. unit_view (r.crew k))
-                  (regood (Good stands told r.lost) (Good stands told lost') (counted_in counted) turn (names told) r.holder r.history s.homes (λ k. unit_view (r.crew k)) taken (λ h u y o g. good_alike r.lost lost' h u y o g) r.units)
-                  v.row lives turn (counted_in counted x) x more mine
-                  (subst (λ (z : List Done × List Done). Good stands told z.0 (z.1 ++ more) turn x) (λ i. (sym lost_now i, (sym here i).seen)) good)
-                  (λ u other. may.held u (not_held u other))
-                  (λ o. absurd (o refl))
-                  (λ _. (refl, subst (λ (y : View). y.faults ≤ counted_in counted x) (sym here) heard)));
+              (regood (Good stands told r.lost) (Good stands told lost') (counted_in counted) turn (names told) r.holder r.history s.homes (λ k. unit_view (r.crew k)) taken (λ h u y o g. good_alike r.lost lost' h u y o g) r.units)
+              v.row lives turn (counted_in counted x) x more mine
+              (subst (λ (z : List Done × List Done). Good stands told z.0 (z.1 ++ more) turn x) (λ i. (sym lost_now i, (sym here i).seen)) good)
+              (λ u other. may.held u (not_held u other))
+              (λ o. absurd (o refl))
+              (λ _. (refl, subst (λ (y : View). y.faults ≤ counted_in counted x) (sym here) heard)));
           paged = at_view s.views r.crew seated id v w l live refl page_view (PagesRule None (spans_in spans) told.pages told.frontier (names_page told) (r.counter 0) r.used r.machine.mark r.space holder' (r.history ++ more) (list.set s.homes turn (some x)))
               (page_with (Gave turn ∷ (r.crew v.row).holds) (r.crew v.row).spans (r.crew v.row).steady (r.crew v.row).pages)
               (λ i. record { live = sym live i; holds = Gave turn ∷ (here i).holds; spans = (here i).spans; steady = (here i).steady; pages = (here i).pages })
               (pages_give None (spans_in spans) told.pages told.frontier (names_page told) (r.counter 0) r.used r.machine.mark r.space r.holder r.history s.homes (λ k. page_view (r.crew k)) r.paged v.row lives
-                  turn x more mine (omega (arith, r.units.deep))
-                  (λ j below at p. absurd (omega (arith, at, below)))
-                  (λ p is at. let a = (r.paged.volatile p (r.paged.marks p is).0).0 in let b = (r.paged.marks p is).0 in omega (arith, at, a, b))
-                  (λ p is. used_is p (may.used p is)));
+              turn x more mine (omega (arith, r.units.deep))
+              (λ j below at p. absurd (omega (arith, at, below)))
+              (λ p is at. let a = (r.paged.volatile p (r.paged.marks p is).0).0 in let b = (r.paged.marks p is).0 in omega (arith, at, a, b))
+              (λ p is. used_is p (may.used p is)));
           draws = unchanged s.views r.crew seated id v w l live refl draw_view (DrawsRule (limit told) (first told) r.counter) refl r.draws;
           named = at_view s.views r.crew seated id v w l live refl name_view (NamesRule makes told.next_name (r.counter 1) (r.history ++ more))
               (name_with (spare (some_has makes more) (r.crew v.row).names)) (λ i. record { live = sym live i; names = spare (some_has makes more) (here i).names })
@@ -215,8 +221,10 @@ module _ {V : Type 0} (stands : Told → List Done → List Done → ℕ → V �
               (lost_with ((r.crew v.row).failed ++ failed) ((r.crew v.row).lost ++ failed)) (λ i. record { live = sym live i; failed = (here i).failed ++ failed; lost = (here i).lost ++ failed })
               (lost_give (r.holder turn) r.lost (λ k. lost_view (r.crew k)) r.failed v.row lives failed ((r.crew v.row).lost ++ failed) (⊎_elim (λ e. inl (lost_is ∙ e)) inr may.single.1)));
           lasts = unchanged s.views r.crew seated id v w l live refl last_view LastRule refl r.lasts;
-          lawful = (subst (λ (h : List Done). Lawful told (h ++ more)) (sym all) may.lawful,
-              subst (λ (z : List Done × List Done). Lawful told ((z.0 ++ more) ++ z.1)) (λ i. (sym all i, sym lost_now i)) may.lawful_lost);
+          lawful = (
+            subst (λ (h : List Done). Lawful told (h ++ more)) (sym all) may.lawful,
+            subst (λ (z : List Done × List Done). Lawful told ((z.0 ++ more) ++ z.1)) (λ i. (sym all i, sym lost_now i)) may.lawful_lost,
+          );
           bounds = r.bounds;
         }
       where

@@ -65,6 +65,7 @@ either_steady told v p steady a b = ⊎_elim (λ y. a (lt_of p told.frontier y))
   where
     lt_of : (x y : ℕ) → nat_lt x y ≡ true → x < y
     lt_of x y e = grind (arith, nat_tests, e)
+
     or_rest : (x y : Bool) → x ≡ false → (x || y) ≡ true → y ≡ true
     or_rest true y e t = absurd (cc)
     or_rest false y e t = t
@@ -128,8 +129,11 @@ module _ {V : Type 0} (stands : Told → List Done → List Done → ℕ → V �
     -- a unit that is free is taken
     pub takes_unit : (u : ℕ) (x : Slot) (after : List Done) → u < told.pages + 33 → r.holder u ≡ 0 → (u < told.pages → is_steady told v u ≡ true)
         → get_elem? s.homes u ≡ some (some x) → r.history ≡ v.seen ++ after
-        → Rule record { words = set s.words (unit_at u) (v.row + 1); homes = set s.homes u none;
-            views = set s.views id (took turn v u after r.lost (spans_in spans x) (counted_in counted x)) }
+        → Rule record {
+          words = set s.words (unit_at u) (v.row + 1);
+          homes = set s.homes u none;
+          views = set s.views id (took turn v u after r.lost (spans_in spans x) (counted_in counted x));
+        }
     takes_unit u x after low free steady at is =
         let w : View = took turn v u after r.lost (spans_in spans x) (counted_in counted x) in
         let here = here_is stands spans counted told s r id v l in
@@ -158,13 +162,13 @@ module _ {V : Type 0} (stands : Told → List Done → List Done → ℕ → V �
               (unit_with (Took u ∷ (r.crew v.row).holds) r.history (if u == turn then counted_in counted x else (r.crew v.row).faults))
               (λ i. record { live = sym live i; holds = Took u ∷ (here i).holds; seen = is i; faults = if u == turn then counted_in counted x else (here i).faults })
               (takes_part (Good stands told r.lost) (counted_in counted) turn (names told) (good_frame r.lost) r.holder r.history s.homes (λ k. unit_view (r.crew k)) r.units v.row lives
-                  u (if u == turn then counted_in counted x else (r.crew v.row).faults) x (omega (arith, low)) free at
-                  (λ o. chosen_else u turn (counted_in counted x) (r.crew v.row).faults o) (λ same. chosen_at u turn (counted_in counted x) (r.crew v.row).faults same));
+              u (if u == turn then counted_in counted x else (r.crew v.row).faults) x (omega (arith, low)) free at
+              (λ o. chosen_else u turn (counted_in counted x) (r.crew v.row).faults o) (λ same. chosen_at u turn (counted_in counted x) (r.crew v.row).faults same));
           paged = at_view s.views r.crew seated id v w l live refl page_view (PagesRule None (spans_in spans) told.pages told.frontier (names_page told) (r.counter 0) r.used r.machine.mark r.space holder' r.history (set s.homes u none))
               (page_with (Took u ∷ (r.crew v.row).holds) (Spread u (spans_in spans x) ∷ (r.crew v.row).spans) (r.crew v.row).steady (r.crew v.row).pages)
               (λ i. record { live = sym live i; holds = Took u ∷ (here i).holds; spans = Spread u (spans_in spans x) ∷ (here i).spans; steady = (here i).steady; pages = (here i).pages })
               (pages_take None (spans_in spans) told.pages told.frontier (names_page told) (r.counter 0) r.used r.machine.mark r.space r.holder r.history s.homes (λ k. page_view (r.crew k)) r.paged v.row lives
-                  u x free (λ below. steady_is u (steady below)) at (omega (arith, low, r.units.deep)));
+              u x free (λ below. steady_is u (steady below)) at (omega (arith, low, r.units.deep)));
           draws = unchanged s.views r.crew seated id v w l live refl draw_view (DrawsRule (limit told) (first told) r.counter) refl r.draws;
           named = unchanged s.views r.crew seated id v w l live refl name_view (NamesRule makes told.next_name (r.counter 1) r.history) refl r.named;
           counts = unchanged s.views r.crew seated id v w l live refl count_view (CountsRule (min (r.counter 2) 32) r.history) refl r.counts;
@@ -172,9 +176,9 @@ module _ {V : Type 0} (stands : Told → List Done → List Done → ℕ → V �
               (lost_with (r.crew v.row).failed (if u == turn then r.lost else (r.crew v.row).lost))
               (λ i. record { live = sym live i; failed = (here i).failed; lost = if u == turn then r.lost else (here i).lost })
               (lost_take (r.holder turn) r.lost (λ k. lost_view (r.crew k)) r.failed v.row lives (holder' turn) (if u == turn then r.lost else (r.crew v.row).lost)
-                  (λ mine. dite (ℕ_discrete u turn) (λ same. chosen_at u turn r.lost (r.crew v.row).lost same)
-                      (λ o. chosen_else u turn r.lost (r.crew v.row).lost o ∙ r.failed.turn_knows v.row (sym (put_else r.holder u (v.row + 1) turn (λ x. o (sym x))) ∙ mine)))
-                  (λ j o. put_cases (λ h. h ≡ j + 1 → r.holder turn ≡ j + 1) r.holder u (v.row + 1) turn (λ _ x. absurd (o (omega (arith, x)))) (λ _ x. x)));
+              (λ mine. dite (ℕ_discrete u turn) (λ same. chosen_at u turn r.lost (r.crew v.row).lost same)
+              (λ o. chosen_else u turn r.lost (r.crew v.row).lost o ∙ r.failed.turn_knows v.row (sym (put_else r.holder u (v.row + 1) turn (λ x. o (sym x))) ∙ mine)))
+              (λ j o. put_cases (λ h. h ≡ j + 1 → r.holder turn ≡ j + 1) r.holder u (v.row + 1) turn (λ _ x. absurd (o (omega (arith, x)))) (λ _ x. x)));
           lasts = unchanged s.views r.crew seated id v w l live refl last_view LastRule refl r.lasts;
           lawful = r.lawful;
           bounds = r.bounds;
@@ -200,7 +204,7 @@ module _ {V : Type 0} (stands : Told → List Done → List Done → ℕ → V �
         let apart : u ≢ turn = λ same. omega (arith, same, low) in
         let holder' : ℕ → ℕ = put r.holder u 0 in
         let held_is : (j : ℕ) → j < 32 → space_unit told.pages j ≡ u → (p : ℕ) → spans_of (r.crew v.row).spans u p ≡ (r.space p == j + 1) = λ j below at p.
-            subst (λ (n : ℕ). spans_of (r.crew v.row).spans n p ≡ (r.space p == j + 1)) at (r.paged.held v.row lives j below (ap (λ (y : View). holds_of y.holds (space_unit told.pages j)) here ∙ (ap (holds_of v.holds) at ∙ holds)) p) in
+        subst (λ (n : ℕ). spans_of (r.crew v.row).spans n p ≡ (r.space p == j + 1)) at (r.paged.held v.row lives j below (ap (λ (y : View). holds_of y.holds (space_unit told.pages j)) here ∙ (ap (holds_of v.holds) at ∙ holds)) p) in
         record {
           crew = put r.crew v.row w;
           seated = seated_now s.views r.crew seated id v w l live refl;
@@ -219,24 +223,24 @@ module _ {V : Type 0} (stands : Told → List Done → List Done → ℕ → V �
               (unit_with (Gave u ∷ (r.crew v.row).holds) ((r.crew v.row).seen ++ []) (r.crew v.row).faults)
               (λ i. record { live = sym live i; holds = Gave u ∷ (here i).holds; seen = (append_nothing (r.crew v.row).seen ∙ ap (λ (y : View). y.seen) here) i; faults = (here i).faults })
               (gives_part (Good stands told r.lost) (counted_in counted) turn (names told) (good_frame r.lost) r.holder r.history s.homes (λ k. unit_view (r.crew k)) r.units v.row lives
-                  u (r.crew v.row).faults x [] mine
-                  (subst (λ (h : List Done). Good stands told r.lost h u x) (ap (λ (y : View). y.seen) (sym here) ∙ sym (append_nothing (r.crew v.row).seen)) good)
-                  (λ _ _. refl) (λ _. (refl, refl)) (λ same. absurd (apart same))));
+              u (r.crew v.row).faults x [] mine
+              (subst (λ (h : List Done). Good stands told r.lost h u x) (ap (λ (y : View). y.seen) (sym here) ∙ sym (append_nothing (r.crew v.row).seen)) good)
+              (λ _ _. refl) (λ _. (refl, refl)) (λ same. absurd (apart same))));
           paged = subst (λ (h : List Done). PagesRule None (spans_in spans) told.pages told.frontier (names_page told) (r.counter 0) r.used r.machine.mark r.space holder' h (set s.homes u (some x)) (λ k. page_view (put r.crew v.row w k))) (append_nothing r.history)
               (at_view s.views r.crew seated id v w l live refl page_view (PagesRule None (spans_in spans) told.pages told.frontier (names_page told) (r.counter 0) r.used r.machine.mark r.space holder' (r.history ++ []) (set s.homes u (some x)))
               (page_with (Gave u ∷ (r.crew v.row).holds) (r.crew v.row).spans (r.crew v.row).steady (r.crew v.row).pages)
               (λ i. record { live = sym live i; holds = Gave u ∷ (here i).holds; spans = (here i).spans; steady = (here i).steady; pages = (here i).pages })
               (pages_give None (spans_in spans) told.pages told.frontier (names_page told) (r.counter 0) r.used r.machine.mark r.space r.holder r.history s.homes (λ k. page_view (r.crew k)) r.paged v.row lives
-                  u x [] mine (omega (arith, low, r.units.deep))
-                  (λ j below at p. fits p (omega (arith, at)) ∙ (ap (λ (y : View). spans_of y.spans u p) (sym here) ∙ held_is j below at p))
-                  (λ p is at. let sp_is = (r.paged.volatile p (r.paged.marks p is).0) in
-                      let low_j : r.space p - 1 < 32 = (let a = sp_is.0 in let b = (r.paged.marks p is).0 in omega (arith, a, b)) in
-                      let in_it : spans_of v.spans u p ≡ true = ap (λ (y : View). spans_of y.spans u p) (sym here) ∙ (held_is (r.space p - 1) low_j at p ∙ equal_test (r.space p) (r.space p - 1 + 1) (let b = (r.paged.marks p is).0 in omega (arith, b))) in
-                      let bare : marks_of v.log p ≡ false = unmarked p (omega (arith, at)) in_it in
-                      let marker : r.machine.mark p ≡ v.row + 1 = sym (r.paged.marks p is).1 ∙ (ap r.holder at ∙ mine) in
-                      let mine_too : marks_of v.log p ≡ true = (knows_row stands spans counted told s r id v l).marks p ∙ equal_test (r.machine.mark p) (v.row + 1) marker in
-                      cc)
-                  (λ p is. absurd (cc))));
+              u x [] mine (omega (arith, low, r.units.deep))
+              (λ j below at p. fits p (omega (arith, at)) ∙ (ap (λ (y : View). spans_of y.spans u p) (sym here) ∙ held_is j below at p))
+              (λ p is at. let sp_is = (r.paged.volatile p (r.paged.marks p is).0) in
+              let low_j : r.space p - 1 < 32 = (let a = sp_is.0 in let b = (r.paged.marks p is).0 in omega (arith, a, b)) in
+              let in_it : spans_of v.spans u p ≡ true = ap (λ (y : View). spans_of y.spans u p) (sym here) ∙ (held_is (r.space p - 1) low_j at p ∙ equal_test (r.space p) (r.space p - 1 + 1) (let b = (r.paged.marks p is).0 in omega (arith, b))) in
+              let bare : marks_of v.log p ≡ false = unmarked p (omega (arith, at)) in_it in
+              let marker : r.machine.mark p ≡ v.row + 1 = sym (r.paged.marks p is).1 ∙ (ap r.holder at ∙ mine) in
+              let mine_too : marks_of v.log p ≡ true = (knows_row stands spans counted told s r id v l).marks p ∙ equal_test (r.machine.mark p) (v.row + 1) marker in
+              cc)
+              (λ p is. absurd (cc))));
           draws = unchanged s.views r.crew seated id v w l live refl draw_view (DrawsRule (limit told) (first told) r.counter) refl r.draws;
           named = unchanged s.views r.crew seated id v w l live refl name_view (NamesRule makes told.next_name (r.counter 1) r.history) refl r.named;
           counts = unchanged s.views r.crew seated id v w l live refl count_view (CountsRule (min (r.counter 2) 32) r.history) refl r.counts;

@@ -32,7 +32,7 @@ module _ (names : Done → ℕ → Bool) where
   others_know history more holder j u h v was now spare know = record {
     holds = λ w. put_cases (λ x. holds_of v.holds w ≡ (x == j + 1)) holder u h w
         (λ here. know.holds w ∙ (let a : (holder w == j + 1) ≡ false = grind (arith, nat_tests, was, ap holder here) in
-            let b : (h == j + 1) ≡ false = grind (arith, nat_tests, now) in a ∙ sym b))
+        let b : (h == j + 1) ≡ false = grind (arith, nat_tests, now) in a ∙ sym b))
         (λ other. know.holds w);
     after = know.after ++ more;
     is = ap (λ (l : List Done). l ++ more) know.is ∙ append_assoc v.seen know.after more;
@@ -63,7 +63,7 @@ module _ (names : Done → ℕ → Bool) where
     after = know.after;
     is = ⊎_elim
         (λ all. let ended : know.after ≡ [] = no_more v.seen know.after (sym know.is ∙ all) in
-            ap (λ (l : List Done). l ++ more) all ∙ (sym (append_nothing (v.seen ++ more)) ∙ ap (λ (l : List Done). (v.seen ++ more) ++ l) (sym ended)))
+        ap (λ (l : List Done). l ++ more) all ∙ (sym (append_nothing (v.seen ++ more)) ∙ ap (λ (l : List Done). (v.seen ++ more) ++ l) (sym ended)))
         (λ nothing. ap (λ (l : List Done). history ++ l) nothing ∙ (append_nothing history ∙ (know.is ∙ ap (λ (l : List Done). l ++ know.after) (sym (ap (λ (l : List Done). v.seen ++ l) nothing ∙ append_nothing v.seen)))))
         whole;
     apart = λ w. put_cases (λ x. x ≡ k + 1 → NoneHas names know.after w) holder u 0 w
@@ -117,7 +117,7 @@ module _ {S : Type 0} (good : List Done → ℕ → S → Type 0) (count : S →
           known = λ j. put_cases (λ v. v.live ≡ true → KnowsUnits names history (put holder u (k + 1)) j v) crew k w j
               (λ here live. subst (λ (n : ℕ). KnowsUnits names history (put holder u (k + 1)) n w) (sym here) (takes_know names history holder k u faults (crew k) (r.known k alive)))
               (λ other live. subst (λ (l : List Done). KnowsUnits names l (put holder u (k + 1)) j (crew j)) (append_nothing history)
-                  (others_know names history [] holder j u (k + 1) (crew j) (λ e. omega (arith, e, free)) (λ e. other (omega (arith, e))) (λ _ _. refl) (r.known j live)));
+              (others_know names history [] holder j u (k + 1) (crew j) (λ e. omega (arith, e, free)) (λ e. other (omega (arith, e))) (λ _ _. refl) (r.known j live)));
           turn_sees = λ j. put_cases (λ h. h ≡ j + 1 → history ≡ (put crew k w j).seen) holder u (k + 1) turn
               (λ here mine. let me : j ≡ k = omega (arith, mine) in sym (ap (λ (y : UnitView). y.seen) (put_at crew k w j me)))
               (λ other mine. put_cases (λ y. history ≡ y.seen) crew k w j (λ _. refl) (λ _. r.turn_sees j mine));
@@ -125,18 +125,18 @@ module _ {S : Type 0} (good : List Done → ℕ → S → Type 0) (count : S →
           heard = λ y home j. dite (ℕ_discrete u turn)
               (λ same. absurd (some-ne-none y (some-injective (some y) none (sym home ∙ (ap (get_elem? (set homes u none)) (sym same) ∙ set_here homes u none inside)))))
               (λ apart. let was : get_elem? homes turn ≡ some (some y) = sym (set_else homes u turn none (λ e. apart (sym e))) ∙ home in
-                  put_cases (λ v. v.live ≡ true → v.faults ≤ count y) crew k w j
-                  (λ here live. subst (λ (n : ℕ). n ≤ count y) (sym (quiet apart)) (r.heard y was k alive))
-                  (λ other live. r.heard y was j live));
+              put_cases (λ v. v.live ≡ true → v.faults ≤ count y) crew k w j
+              (λ here live. subst (λ (n : ℕ). n ≤ count y) (sym (quiet apart)) (r.heard y was k alive))
+              (λ other live. r.heard y was j live));
           heard_out = λ i. put_cases (λ h. h ≡ i + 1 → (j : ℕ) → (put crew k w j).live ≡ true → (put crew k w j).faults ≤ (put crew k w i).faults) holder u (k + 1) turn
               (λ here mine j. let me : i ≡ k = omega (arith, mine) in let home : get_elem? homes turn ≡ some (some x) = ap (get_elem? homes) here ∙ at in
-                  let mine_is : (put crew k w i).faults ≡ count x = ap (λ (y : UnitView). y.faults) (put_at crew k w i me) ∙ loud (sym here) in
-                  put_cases (λ v. v.live ≡ true → v.faults ≤ (put crew k w i).faults) crew k w j
-                  (λ _ live. let a : faults ≡ count x = loud (sym here) in omega (arith, a, mine_is))
-                  (λ _ live. let a : (crew j).faults ≤ count x = r.heard x home j live in omega (arith, a, mine_is)))
+              let mine_is : (put crew k w i).faults ≡ count x = ap (λ (y : UnitView). y.faults) (put_at crew k w i me) ∙ loud (sym here) in
+              put_cases (λ v. v.live ≡ true → v.faults ≤ (put crew k w i).faults) crew k w j
+              (λ _ live. let a : faults ≡ count x = loud (sym here) in omega (arith, a, mine_is))
+              (λ _ live. let a : (crew j).faults ≤ count x = r.heard x home j live in omega (arith, a, mine_is)))
               (λ other mine j. let same : (i : ℕ) → (put crew k w i).faults ≡ (crew i).faults = λ i. put_cases (λ v. v.faults ≡ (crew i).faults) crew k w i (λ here. quiet (λ e. other (sym e)) ∙ ap (λ (n : ℕ). (crew n).faults) (sym here)) (λ _. refl) in
-                  λ live. let live_was : (crew j).live ≡ true = dite (ℕ_discrete j k) (λ e. ap (λ (n : ℕ). (crew n).live) e ∙ alive) (λ o. ap (λ (y : UnitView). y.live) (sym (put_else crew k w j o)) ∙ live) in
-                  let a : (crew j).faults ≤ (crew i).faults = r.heard_out i mine j live_was in omega (arith, a, same i, same j));
+              λ live. let live_was : (crew j).live ≡ true = dite (ℕ_discrete j k) (λ e. ap (λ (n : ℕ). (crew n).live) e ∙ alive) (λ o. ap (λ (y : UnitView). y.live) (sym (put_else crew k w j o)) ∙ live) in
+              let a : (crew j).faults ≤ (crew i).faults = r.heard_out i mine j live_was in omega (arith, a, same i, same j));
         }
 
     -- k gives the unit u back with x, and adds commits that name units of k alone; commits come with the turn alone
@@ -150,20 +150,24 @@ module _ {S : Type 0} (good : List Done → ℕ → S → Type 0) (count : S →
         let inside : u < length homes = omega (arith, r.deep, low) in
         let know = r.known k alive in
         let whole : (history ≡ (crew k).seen) ⊎ (more ≡ []) = dite (ℕ_discrete u turn)
-            (λ e. inl (r.turn_sees k (ap holder (sym e) ∙ mine))) (λ o. inr (quiet o).1) in
+        (λ e. inl (r.turn_sees k (ap holder (sym e) ∙ mine))) (λ o. inr (quiet o).1) in
         let good_now : good (history ++ more) u x = ⊎_elim
-            (λ all. subst (λ (l : List Done). good (l ++ more) u x) (sym all) stands)
-            (λ nothing. subst (λ (l : List Done). good l u x) (sym (ap (λ (l : List Done). history ++ l) nothing ∙ append_nothing history))
-                (subst (λ (l : List Done). good l u x) (sym know.is) (frames (crew k).seen know.after u x (know.apart u mine)
-                    (subst (λ (l : List Done). good l u x) (ap (λ (l : List Done). (crew k).seen ++ l) nothing ∙ append_nothing (crew k).seen) stands))))
-            whole in
+        (λ all. subst (λ (l : List Done). good (l ++ more) u x) (sym all) stands)
+        (λ nothing. subst (λ (l : List Done). good l u x) (sym (ap (λ (l : List Done). history ++ l) nothing ∙ append_nothing history))
+        (subst (λ (l : List Done). good l u x) (sym know.is) (frames (crew k).seen know.after u x (know.apart u mine)
+        (subst (λ (l : List Done). good l u x) (ap (λ (l : List Done). (crew k).seen ++ l) nothing ∙ append_nothing (crew k).seen) stands))))
+        whole in
         let seen_now : (y : (j : ℕ) × ((crew j).live ≡ true) × (history ≡ (crew j).seen)) → (j : ℕ) × ((put crew k w j).live ≡ true) × (history ++ more ≡ (put crew k w j).seen) =
-            λ y. ⊎_elim
-                (λ all. (k, put_cases (λ v. v.live ≡ true) crew k w k (λ _. refl) (λ o. absurd (o refl)), put_cases (λ v. history ++ more ≡ v.seen) crew k w k (λ _. ap (λ (l : List Done). l ++ more) all) (λ o. absurd (o refl))))
-                (λ nothing. (y.0, lives_on w refl y.0 y.1, put_cases (λ v. history ++ more ≡ v.seen) crew k w y.0
-                    (λ here. ap (λ (l : List Done). l ++ more) (y.2 ∙ ap (λ (n : ℕ). (crew n).seen) here))
-                    (λ other. ap (λ (l : List Done). history ++ l) nothing ∙ (append_nothing history ∙ y.2))))
-                whole in
+        λ y. ⊎_elim
+        (λ all. (k, put_cases (λ v. v.live ≡ true) crew k w k (λ _. refl) (λ o. absurd (o refl)), put_cases (λ v. history ++ more ≡ v.seen) crew k w k (λ _. ap (λ (l : List Done). l ++ more) all) (λ o. absurd (o refl))))
+        (λ nothing. (
+          y.0,
+          lives_on w refl y.0 y.1,
+          put_cases (λ v. history ++ more ≡ v.seen) crew k w y.0
+              (λ here. ap (λ (l : List Done). l ++ more) (y.2 ∙ ap (λ (n : ℕ). (crew n).seen) here))
+              (λ other. ap (λ (l : List Done). history ++ l) nothing ∙ (append_nothing history ∙ y.2)),
+        ))
+        whole in
         record {
           deep = length-set homes u (some x) ∙ r.deep;
           home = λ i l. put_cases (λ h. h ≡ 0 → (y : S) × (get_elem? (set homes u (some x)) i ≡ some (some y)) × good (history ++ more) i y) holder u 0 i
@@ -178,29 +182,29 @@ module _ {S : Type 0} (good : List Done → ℕ → S → Type 0) (count : S →
           known = λ j. put_cases (λ v. v.live ≡ true → KnowsUnits names (history ++ more) (put holder u 0) j v) crew k w j
               (λ here live. subst (λ (n : ℕ). KnowsUnits names (history ++ more) (put holder u 0) n w) (sym here) (gives_know names history more holder k u faults (crew k) whole know))
               (λ other live. others_know names history more holder j u 0 (crew j) (λ e. other (omega (arith, e, mine))) (λ e. omega (arith, e))
-                  (λ i is. apart i (λ e. other (omega (arith, e, is)))) (r.known j live));
+              (λ i is. apart i (λ e. other (omega (arith, e, is)))) (r.known j live));
           turn_sees = λ j. put_cases (λ h. h ≡ j + 1 → history ++ more ≡ (put crew k w j).seen) holder u 0 turn
               (λ here is. absurd (omega (arith, is)))
               (λ other is. let nothing = (quiet (λ e. other (sym e))).1 in
-                  put_cases (λ v. history ++ more ≡ v.seen) crew k w j
-                  (λ here. ap (λ (l : List Done). l ++ more) (r.turn_sees j is ∙ ap (λ (n : ℕ). (crew n).seen) here))
-                  (λ _. ap (λ (l : List Done). history ++ l) nothing ∙ (append_nothing history ∙ r.turn_sees j is)));
+              put_cases (λ v. history ++ more ≡ v.seen) crew k w j
+              (λ here. ap (λ (l : List Done). l ++ more) (r.turn_sees j is ∙ ap (λ (n : ℕ). (crew n).seen) here))
+              (λ _. ap (λ (l : List Done). history ++ l) nothing ∙ (append_nothing history ∙ r.turn_sees j is)));
           one_sees = seen_now r.one_sees;
           heard = λ y home j. dite (ℕ_discrete u turn)
               (λ same. let is : x ≡ y = some-injective x y (some-injective (some x) (some y) (sym (set_here homes u (some x) inside) ∙ (ap (get_elem? (set homes u (some x))) same ∙ home))) in
-                  let counts : count x ≡ count y = ap count is in let mine_is = loud same in let out = r.heard_out k (ap holder (sym same) ∙ mine) in
-                  put_cases (λ v. v.live ≡ true → v.faults ≤ count y) crew k w j
-                  (λ _ live. omega (arith, mine_is.0, counts))
-                  (λ _ live. let a : (crew j).faults ≤ (crew k).faults = out j live in omega (arith, a, mine_is.1, counts)))
+              let counts : count x ≡ count y = ap count is in let mine_is = loud same in let out = r.heard_out k (ap holder (sym same) ∙ mine) in
+              put_cases (λ v. v.live ≡ true → v.faults ≤ count y) crew k w j
+              (λ _ live. omega (arith, mine_is.0, counts))
+              (λ _ live. let a : (crew j).faults ≤ (crew k).faults = out j live in omega (arith, a, mine_is.1, counts)))
               (λ o. let was : get_elem? homes turn ≡ some (some y) = sym (set_else homes u turn (some x) (λ e. o (sym e))) ∙ home in
-                  put_cases (λ v. v.live ≡ true → v.faults ≤ count y) crew k w j
-                  (λ here live. subst (λ (n : ℕ). n ≤ count y) (sym (quiet o).0) (r.heard y was k alive))
-                  (λ other live. r.heard y was j live));
+              put_cases (λ v. v.live ≡ true → v.faults ≤ count y) crew k w j
+              (λ here live. subst (λ (n : ℕ). n ≤ count y) (sym (quiet o).0) (r.heard y was k alive))
+              (λ other live. r.heard y was j live));
           heard_out = λ i. put_cases (λ h. h ≡ i + 1 → (j : ℕ) → (put crew k w j).live ≡ true → (put crew k w j).faults ≤ (put crew k w i).faults) holder u 0 turn
               (λ here is. absurd (omega (arith, is)))
               (λ other is j. let same : (i : ℕ) → (put crew k w i).faults ≡ (crew i).faults = λ i. put_cases (λ v. v.faults ≡ (crew i).faults) crew k w i (λ here. (quiet (λ e. other (sym e))).0 ∙ ap (λ (n : ℕ). (crew n).faults) (sym here)) (λ _. refl) in
-                  λ live. let live_was : (crew j).live ≡ true = dite (ℕ_discrete j k) (λ e. ap (λ (n : ℕ). (crew n).live) e ∙ alive) (λ o. ap (λ (y : UnitView). y.live) (sym (put_else crew k w j o)) ∙ live) in
-                  let a : (crew j).faults ≤ (crew i).faults = r.heard_out i is j live_was in omega (arith, a, same i, same j));
+              λ live. let live_was : (crew j).live ≡ true = dite (ℕ_discrete j k) (λ e. ap (λ (n : ℕ). (crew n).live) e ∙ alive) (λ o. ap (λ (y : UnitView). y.live) (sym (put_else crew k w j o)) ∙ live) in
+              let a : (crew j).faults ≤ (crew i).faults = r.heard_out i is j live_was in omega (arith, a, same i, same j));
         }
 
     -- k holds the unit u, which is at home and which no commit names
@@ -227,17 +231,17 @@ module _ {S : Type 0} (good : List Done → ℕ → S → Type 0) (count : S →
               (λ other taken. let h = r.held i taken in (h.0, (h.1.0, h.1.1, lives_on w refl h.1.0 h.1.2)));
           known = λ j. put_cases (λ v. v.live ≡ true → KnowsUnits names history (put holder u (k + 1)) j v) crew k w j
               (λ here live. subst (λ (n : ℕ). KnowsUnits names history (put holder u (k + 1)) n w) (sym here) (record {
-                  holds = λ i. put_cases (λ x. x ≡ (put holder u (k + 1) i == k + 1)) (holds_of (crew k).holds) u true i
-                      (λ at. let now : put holder u (k + 1) i ≡ k + 1 = put_at holder u (k + 1) i at in grind (arith, nat_tests, now))
-                      (λ other. know.holds i ∙ ap (λ (x : ℕ). x == k + 1) (sym (put_else holder u (k + 1) i other)));
-                  after = know.after;
-                  is = know.is;
-                  apart = λ i. put_cases (λ x. x ≡ k + 1 → NoneHas names know.after i) holder u (k + 1) i
-                      (λ at _. none_right names (crew k).seen know.after i (ap (λ (h : List Done). some_has names h i) (sym know.is) ∙ (ap (some_has names history) at ∙ spare)))
-                      (λ other mine. know.apart i mine);
-                }))
+                holds = λ i. put_cases (λ x. x ≡ (put holder u (k + 1) i == k + 1)) (holds_of (crew k).holds) u true i
+                    (λ at. let now : put holder u (k + 1) i ≡ k + 1 = put_at holder u (k + 1) i at in grind (arith, nat_tests, now))
+                    (λ other. know.holds i ∙ ap (λ (x : ℕ). x == k + 1) (sym (put_else holder u (k + 1) i other)));
+                after = know.after;
+                is = know.is;
+                apart = λ i. put_cases (λ x. x ≡ k + 1 → NoneHas names know.after i) holder u (k + 1) i
+                    (λ at _. none_right names (crew k).seen know.after i (ap (λ (h : List Done). some_has names h i) (sym know.is) ∙ (ap (some_has names history) at ∙ spare)))
+                    (λ other mine. know.apart i mine);
+              }))
               (λ other live. subst (λ (l : List Done). KnowsUnits names l (put holder u (k + 1)) j (crew j)) (append_nothing history)
-                  (others_know names history [] holder j u (k + 1) (crew j) (λ e. omega (arith, e, free)) (λ e. other (omega (arith, e))) (λ _ _. refl) (r.known j live)));
+              (others_know names history [] holder j u (k + 1) (crew j) (λ e. omega (arith, e, free)) (λ e. other (omega (arith, e))) (λ _ _. refl) (r.known j live)));
           turn_sees = λ j is. r.turn_sees j (sym (put_else holder u (k + 1) turn apart) ∙ is) ∙ sym (seen j);
           one_sees = (r.one_sees.0, lives_on w refl r.one_sees.0 r.one_sees.1, r.one_sees.2 ∙ sym (seen r.one_sees.0));
           heard = λ y home j live. subst (λ (n : ℕ). n ≤ count y) (sym (same j)) (r.heard y (sym (set_else homes u turn none apart) ∙ home) j (was j live));

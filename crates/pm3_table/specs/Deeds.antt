@@ -41,9 +41,9 @@ reads_of pages (Stood place ∷ ds) = reads_of pages ds
 reads_of pages (Marked page ∷ ds) = put (reads_of pages ds) page (λ _. false)
 reads_of pages (Found row place word ∷ ds) =
     λ page.
-        if marks_of ds page && not (names pages word page)
-        then put (reads_of pages ds page) (spot row place) true
-        else reads_of pages ds page
+    if marks_of ds page && not (names pages word page)
+    then put (reads_of pages ds page) (spot row place) true
+    else reads_of pages ds page
 reads_of pages (Unmarked page ∷ ds) = put (reads_of pages ds) page (λ _. false)
 
 -- it marks the page, and each place of all rows is read off for it

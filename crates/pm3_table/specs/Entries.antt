@@ -63,7 +63,7 @@ abbrev pub object_refers : List Fields → Sheet → ℕ → ℕ → Bool
 object_refers catalog sheet page s =
     is_start sheet s
     && list_any (λ k. is_reference_in (map_at catalog sheet s) (tail_at sheet s) k && (page_in (slice_index sheet.words (s + 2 + k)) == page))
-      (range_with_len 0 512)
+    (range_with_len 0 512)
 
 -- a reference on a page leads to the page, or a root on the page of the roots does
 abbrev pub sheet_refers : List Fields → ℕ → ℕ → Option Sheet → Bool

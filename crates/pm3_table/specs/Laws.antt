@@ -33,5 +33,5 @@ abbrev pub DrawnApart : {S : Type 0} → State S View → Type 0
 DrawnApart s =
     (i j : ℕ) (v w : View) (n : ℕ) → Lives s.views i v → Lives s.views j w
     → ((is_in n v.pages ≡ true → is_in n w.pages ≡ true → i ≡ j)
-      × (is_in n v.names ≡ true → is_in n w.names ≡ true → i ≡ j)
-      × (v.row ≡ w.row → i ≡ j))
+    × (is_in n v.names ≡ true → is_in n w.names ≡ true → i ≡ j)
+    × (v.row ≡ w.row → i ≡ j))

@@ -21,13 +21,9 @@ pub trait Chronicle {
     fn faults(&self) -> u64;
 
     // A commit that does not name the unit leaves what stands for it.
-    ghost frame: {
-        (told : Told) (lost h : List Done) (e : Done) (u : ℕ) (x : Self) → names told e u ≡ false
-        → stands told lost h u x → stands told lost (h ++ e ∷ []) u x
-    };
+    ghost frame: { (told : Told) (lost h : List Done) (e : Done) (u : ℕ) (x : Self) → names told e u ≡ false
+        → stands told lost h u x → stands told lost (h ++ e ∷ []) u x };
     // Failed commits concern the turn alone.
-    ghost alike: {
-        (told : Told) (lost more h : List Done) (u : ℕ) (x : Self) → u ≢ turn_unit told.pages
-        → stands told lost h u x → stands told more h u x
-    };
+    ghost alike: { (told : Told) (lost more h : List Done) (u : ℕ) (x : Self) → u ≢ turn_unit told.pages
+        → stands told lost h u x → stands told more h u x };
 }

@@ -19,11 +19,17 @@ fn draw_page_at<V: Chronicle, J: Aim>(shared: &Shared<V>, pass: &mut Pass<V>) ->
 {
     let at = PLACES + (shared.pages as usize + 33);
     let limit = shared.pages as u64;
-    let seen = shared.table.shared.load::<CountsPages<J>>(&mut pass.seat, at);
+    let seen = shared
+        .table
+        .shared
+        .load::<CountsPages<J>>(&mut pass.seat, at);
     if seen >= limit {
         return None;
     }
-    let page = shared.table.shared.fetch_add::<FetchesPage<J>>(&mut pass.seat, at, 1);
+    let page = shared
+        .table
+        .shared
+        .fetch_add::<FetchesPage<J>>(&mut pass.seat, at, 1);
     if page >= limit {
         return None;
     }
@@ -44,11 +50,17 @@ fn draw_name_at<V: Chronicle, J: Aim>(shared: &Shared<V>, pass: &mut Pass<V>) ->
     ensures { MatchOption result (Becomes pass.old pass.new (saw_full 1 pass.old.1)) (λ n. (n < 2 ^ 62) × Becomes pass.old pass.new (drew_name pass.old.1 n)) }
 {
     let at = PLACES + (shared.pages as usize + 33) + 1;
-    let seen = shared.table.shared.load::<CountsNames<J>>(&mut pass.seat, at);
+    let seen = shared
+        .table
+        .shared
+        .load::<CountsNames<J>>(&mut pass.seat, at);
     if seen >= NAMES {
         return None;
     }
-    let name = shared.table.shared.fetch_add::<FetchesName<J>>(&mut pass.seat, at, 1);
+    let name = shared
+        .table
+        .shared
+        .fetch_add::<FetchesName<J>>(&mut pass.seat, at, 1);
     if name >= NAMES {
         return None;
     }

@@ -16,17 +16,25 @@ use std::marker::{Brand, PhantomData};
 /// What no operand of a step shows: what the table was told, a row, a place or a unit, and commits.
 pub trait Aim {
     ghost told: { Told };
+
     ghost in_row: { ℕ };
+
     ghost at: { ℕ };
+
     ghost more: { List Done };
+
     ghost failed: { List Done };
 }
 
 impl Aim for Brand {
     ghost told = { blank_told };
+
     ghost in_row = { 0 };
+
     ghost at = { 0 };
+
     ghost more = { [] };
+
     ghost failed = { [] };
 }
 

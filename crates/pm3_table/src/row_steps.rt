@@ -22,7 +22,10 @@ fn store_at<V: Chronicle, J: Aim>(shared: &Shared<V>, pass: &mut Pass<V>, place:
     ensures { Becomes pass.old pass.new (did pass.old.1 (Stored place word)) }
 {
     let at = (ROW_PLACES * pass.row + place) as usize;
-    shared.table.shared.store::<Stores<J>>(&mut pass.seat, at, word);
+    shared
+        .table
+        .shared
+        .store::<Stores<J>>(&mut pass.seat, at, word);
 }
 
 /// Stores a word at a place of the pass's row, which does not stand then.
@@ -34,7 +37,12 @@ pub fn store_word<V: Chronicle>(shared: &Shared<V>, pass: &mut Pass<V>, place: u
     store_at::<V, Brand>(shared, pass, place, word);
 }
 
-fn read_at<V: Chronicle, J: Aim>(shared: &Shared<V>, pass: &mut Pass<V>, row: u32, place: u32) -> u64
+fn read_at<V: Chronicle, J: Aim>(
+    shared: &Shared<V>,
+    pass: &mut Pass<V>,
+    row: u32,
+    place: u32,
+) -> u64
     requires of { IsOf pass.old shared.now }
     requires low { (row < ROWS) × (place < ROW_PLACES) }
     requires aim { (J.in_row ≡ row) × (J.at ≡ place) }
@@ -123,7 +131,10 @@ fn mark_at<V: Chronicle, J: Aim>(shared: &Shared<V>, pass: &mut Pass<V>, page: u
 {
     let at = PLACES + page as usize;
     let word = 256 * (pass.row as u64 + 1) + 65536 * (space as u64 + 1);
-    shared.table.shared.store::<Marks<J>>(&mut pass.seat, at, word);
+    shared
+        .table
+        .shared
+        .store::<Marks<J>>(&mut pass.seat, at, word);
 }
 
 /// Marks a page of a space that the pass holds and that it has not marked.
@@ -147,7 +158,10 @@ fn unmark_at<V: Chronicle, J: Aim>(shared: &Shared<V>, pass: &mut Pass<V>, page:
 {
     let at = PLACES + page as usize;
     let word = 65536 * (space as u64 + 1);
-    shared.table.shared.store::<Unmarks<J>>(&mut pass.seat, at, word);
+    shared
+        .table
+        .shared
+        .store::<Unmarks<J>>(&mut pass.seat, at, word);
 }
 
 /// Takes the mark off a page that the pass has marked.

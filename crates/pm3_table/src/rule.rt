@@ -20,9 +20,7 @@ impl<V: Chronicle> TableRule<Option<V>, View, Key<V>> for TheRule {
     ghost use Rattle.pm3_table.specs.Rule.{Ruled};
     ghost use Rattle.pm3_table.specs.Starting.{told_of, first_view};
 
-    ghost holds = {
-        λ key s. Ruled V.stands V.spans V.counted (told_of V.opening key.pages key.frontier key.next_name key.turn.value) s
-    };
+    ghost holds = { λ key s. Ruled V.stands V.spans V.counted (told_of V.opening key.pages key.frontier key.next_name key.turn.value) s };
 
     ghost first = { λ key. first_view (V.counted key.turn.value) };
 }

@@ -16,11 +16,17 @@ fn split_at<V: Chronicle, J: Aim>(shared: &Shared<V>, pass: &mut Pass<V>) -> Opt
     ensures { MatchOption result (Becomes pass.old pass.new (saw_full 2 pass.old.1)) (λ made. (pass.new ≡ pass.old) × ((n : ℕ) × (n < 32) × Becomes pass.old made (new_view n pass.old.1))) }
 {
     let at = PLACES + (shared.pages as usize + 33) + 2;
-    let seen = shared.table.shared.load::<CountsRows<J>>(&mut pass.seat, at);
+    let seen = shared
+        .table
+        .shared
+        .load::<CountsRows<J>>(&mut pass.seat, at);
     if seen >= 32 {
         return None;
     }
-    let row = shared.table.shared.fetch_add::<FetchesRow<J>>(&mut pass.seat, at, 1);
+    let row = shared
+        .table
+        .shared
+        .fetch_add::<FetchesRow<J>>(&mut pass.seat, at, 1);
     if row >= 32 {
         return None;
     }

@@ -25,9 +25,7 @@ impl<V: Chronicle> Model for Shared<V> {
 
     ghost coded = { Prim.hlevel (codes, table_id_coded, origin_code) };
 
-    ghost view = {
-        λ s. (s.table.shared.table_id, told_of V.opening s.table.shared.key.pages s.table.shared.key.frontier s.table.shared.key.next_name s.table.shared.key.turn.value)
-    };
+    ghost view = { λ s. (s.table.shared.table_id, told_of V.opening s.table.shared.key.pages s.table.shared.key.frontier s.table.shared.key.next_name s.table.shared.key.turn.value) };
 
     ghost invariant = { λ s. IsLaidOut s.table.shared.table_id s.pages s.table.shared.key.pages };
 }

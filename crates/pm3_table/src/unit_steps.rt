@@ -30,11 +30,19 @@ fn take_at<V: Chronicle, J: Aim>(
 {
     let at = PLACES + unit as usize;
     let mine = pass.row as u64 + 1;
-    let found = shared.table.shared.compare_exchange::<Takes<V, J>>(&mut pass.seat, at, 0, mine);
+    let found = shared
+        .table
+        .shared
+        .compare_exchange::<Takes<V, J>>(&mut pass.seat, at, 0, mine);
     if found != 0 {
         return Err(found);
     }
-    Ok(shared.table.shared.exchange(&mut pass.seat, unit as usize, None))
+    Ok(
+        shared
+            .table
+            .shared
+            .exchange(&mut pass.seat, unit as usize, None),
+    )
 }
 
 /// Takes a unit in a single try. At Ok the pass has seen the whole history, and nothing that came to it names a unit that the
@@ -53,12 +61,7 @@ pub fn take_unit<V: Chronicle>(
     take_at::<V, Brand>(shared, pass, unit)
 }
 
-fn give_at<V: Chronicle, J: Aim>(
-    shared: &Shared<V>,
-    pass: &mut Pass<V>,
-    unit: u32,
-    slot: Option<V>,
-)
+fn give_at<V: Chronicle, J: Aim>(shared: &Shared<V>, pass: &mut Pass<V>, unit: u32, slot: Option<V>)
     requires of { IsOf pass.old shared.now }
     requires unit { (unit < shared.now.1.pages + 32) × (holds_of pass.old.1.holds unit ≡ true) }
     requires spans { (p : ℕ) → shared.now.1.pages ≤ unit → is_in p (spans_in V.spans slot) ≡ spans_of pass.old.1.spans unit p }
@@ -69,18 +72,16 @@ fn give_at<V: Chronicle, J: Aim>(
 {
     let at = PLACES + unit as usize;
     shared.table.shared.load::<Reaches<J>>(&mut pass.seat, at);
-    let held = shared.table.shared.exchange(&mut pass.seat, unit as usize, slot);
+    let held = shared
+        .table
+        .shared
+        .exchange(&mut pass.seat, unit as usize, slot);
     let None = held else { unreachable!() };
     shared.table.shared.store::<Gives<J>>(&mut pass.seat, at, 0);
 }
 
 /// Gives a unit other than the turn back, with what stands for it after all that the pass has seen.
-pub fn give_unit<V: Chronicle>(
-    shared: &Shared<V>,
-    pass: &mut Pass<V>,
-    unit: u32,
-    slot: Option<V>,
-)
+pub fn give_unit<V: Chronicle>(shared: &Shared<V>, pass: &mut Pass<V>, unit: u32, slot: Option<V>)
     requires of { IsOf pass.old shared.now }
     requires unit { (unit < shared.now.1.pages + 32) × (holds_of pass.old.1.holds unit ≡ true) }
     requires spans { (p : ℕ) → shared.now.1.pages ≤ unit → is_in p (spans_in V.spans slot) ≡ spans_of pass.old.1.spans unit p }
@@ -103,17 +104,18 @@ fn turn_at<V: Chronicle, J: Aim>(shared: &Shared<V>, pass: &mut Pass<V>, value: 
     let unit = shared.pages + 32;
     let at = PLACES + unit as usize;
     shared.table.shared.load::<Reaches<J>>(&mut pass.seat, at);
-    let held = shared.table.shared.exchange(&mut pass.seat, unit as usize, Some(value));
+    let held = shared
+        .table
+        .shared
+        .exchange(&mut pass.seat, unit as usize, Some(value));
     let None = held else { unreachable!() };
-    shared.table.shared.store::<Turns<V, J>>(&mut pass.seat, at, 0);
+    shared
+        .table
+        .shared
+        .store::<Turns<V, J>>(&mut pass.seat, at, 0);
 }
 
-fn settle_in_at<V: Chronicle, J: Aim>(
-    shared: &Shared<V>,
-    pass: &mut Pass<V>,
-    page: u32,
-    space: u32,
-)
+fn settle_in_at<V: Chronicle, J: Aim>(shared: &Shared<V>, pass: &mut Pass<V>, page: u32, space: u32)
     requires of { IsOf pass.old shared.now }
     requires page { (page < shared.now.1.pages) × MaySettle shared.now.1 pass.old.1 page }
     requires space { (space < 32) × (holds_of pass.old.1.holds (space_unit shared.now.1.pages space) ≡ true) }
@@ -122,16 +124,14 @@ fn settle_in_at<V: Chronicle, J: Aim>(
 {
     let at = PLACES + page as usize;
     let word = 65536 * (space as u64 + 1);
-    shared.table.shared.store::<SettlesIn<J>>(&mut pass.seat, at, word);
+    shared
+        .table
+        .shared
+        .store::<SettlesIn<J>>(&mut pass.seat, at, word);
 }
 
 /// A page that was drawn, or is of a held space, becomes a page of this held space, without a mark.
-pub fn settle_volatile<V: Chronicle>(
-    shared: &Shared<V>,
-    pass: &mut Pass<V>,
-    page: u32,
-    space: u32,
-)
+pub fn settle_volatile<V: Chronicle>(shared: &Shared<V>, pass: &mut Pass<V>, page: u32, space: u32)
     requires of { IsOf pass.old shared.now }
     requires page { (page < shared.now.1.pages) × MaySettle shared.now.1 pass.old.1 page }
     requires space { (space < 32) × (holds_of pass.old.1.holds (space_unit shared.now.1.pages space) ≡ true) }
@@ -148,7 +148,10 @@ fn settle_held_at<V: Chronicle, J: Aim>(shared: &Shared<V>, pass: &mut Pass<V>, 
 {
     let at = PLACES + page as usize;
     let word = pass.row as u64 + 1;
-    shared.table.shared.store::<SettlesHeld<J>>(&mut pass.seat, at, word);
+    shared
+        .table
+        .shared
+        .store::<SettlesHeld<J>>(&mut pass.seat, at, word);
 }
 
 /// A page that was drawn, or is of a held space, becomes persistent, and the pass holds it.

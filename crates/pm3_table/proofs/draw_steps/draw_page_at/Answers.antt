@@ -22,12 +22,11 @@ pub load-seen-requires : goal.load-seen-requires
 load-seen-requires g c = let key = c.shared.inside.table.shared.key in let v = g.V.Chronicle in let laws = g.met.V.Chronicle in
     let t : Told = told_of v.opening key.pages key.frontier key.next_name key.turn.value in
     let me = c.pass.inside.seat.me in
-    let told_is : c.args.shared.now.1 ≡ t = ap (λ z. z.1) (sym c.shared.view_is) in
-    (
-  search rules,
-  search rules,
-  count_call v.stands v.spans v.counted t (subst (λ p. p < 16385) c.shared.invariant.pages_are c.shared.invariant.small) _ _ _ c.pass.invariant.live _ 0 _ (omega (arith, c.shared.invariant.pages_are)) (c.requires.aim ∙ told_is) (omega arith) c.pass.invariant.drawing,
-)
+    let told_is : c.args.shared.now.1 ≡ t = ap (λ z. z.1) (sym c.shared.view_is) in (
+      search rules,
+      search rules,
+      count_call v.stands v.spans v.counted t (subst (λ p. p < 16385) c.shared.invariant.pages_are c.shared.invariant.small) _ _ _ c.pass.invariant.live _ 0 _ (omega (arith, c.shared.invariant.pages_are)) (c.requires.aim ∙ told_is) (omega arith) c.pass.invariant.drawing,
+    )
 
 pub fetch_add-page-requires : goal.fetch_add-page-requires
 fetch_add-page-requires g c = let key = c.shared.inside.table.shared.key in let v = g.V.Chronicle in let laws = g.met.V.Chronicle in
@@ -35,7 +34,7 @@ fetch_add-page-requires g c = let key = c.shared.inside.table.shared.key in let 
     let me = c.pass.inside.seat.me in
     let told_is : c.args.shared.now.1 ≡ t = ap (λ z. z.1) (sym c.shared.view_is) in
     let begun : c.load-seen.new.seat.me ≡ (begins_draw 0 me.0, me.1) = c.load-seen.ensures.2.1 (subst (λ (x : Told). c.load-seen.result < limit x 0) (sym (c.requires.aim ∙ told_is)) (omega (arith, c.shared.invariant.pages_are, c.if-seen-limit.false))) in (
-  search rules,
-  search rules,
-  fetch_page_call v.stands v.spans v.counted t (subst (λ p. p < 16385) c.shared.invariant.pages_are c.shared.invariant.small) _ _ _ (ap (λ m. m.0.live) begun ∙ c.pass.invariant.live) _ _ (omega (arith, c.shared.invariant.pages_are)) (c.requires.aim ∙ told_is) (ap (λ m. m.0.drawing) begun),
-)
+      search rules,
+      search rules,
+      fetch_page_call v.stands v.spans v.counted t (subst (λ p. p < 16385) c.shared.invariant.pages_are c.shared.invariant.small) _ _ _ (ap (λ m. m.0.live) begun ∙ c.pass.invariant.live) _ _ (omega (arith, c.shared.invariant.pages_are)) (c.requires.aim ∙ told_is) (ap (λ m. m.0.drawing) begun),
+    )

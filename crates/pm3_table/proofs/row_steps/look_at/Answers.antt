@@ -22,10 +22,9 @@ pub load-requires : goal.load-requires
 load-requires g c = let key = c.shared.inside.table.shared.key in let v = g.V.Chronicle in let laws = g.met.V.Chronicle in
     let t : Told = told_of v.opening key.pages key.frontier key.next_name key.turn.value in
     let me = c.pass.inside.seat.me in
-    let told_is : c.args.shared.now.1 ≡ t = ap (λ z. z.1) (sym c.shared.view_is) in
-    (
-  search rules,
-  search rules,
-  look_call v.stands v.spans v.counted t _ _ _ c.pass.invariant.live (laws.frame t) (laws.alike t) _ _ c.args.page _ refl c.requires.aim.1 (c.requires.aim.0 ∙ told_is)
-      (within _ _ me.0 t _ _ c.pass.view_is c.shared.view_is (λ (x : Told) (y : View). c.args.page < x.pages) c.requires.low) (within _ _ me.0 t _ _ c.pass.view_is c.shared.view_is (λ (x : Told) (y : View). knows_used x y c.args.page ≡ true) c.requires.used),
-)
+    let told_is : c.args.shared.now.1 ≡ t = ap (λ z. z.1) (sym c.shared.view_is) in (
+      search rules,
+      search rules,
+      look_call v.stands v.spans v.counted t _ _ _ c.pass.invariant.live (laws.frame t) (laws.alike t) _ _ c.args.page _ refl c.requires.aim.1 (c.requires.aim.0 ∙ told_is)
+          (within _ _ me.0 t _ _ c.pass.view_is c.shared.view_is (λ (x : Told) (y : View). c.args.page < x.pages) c.requires.low) (within _ _ me.0 t _ _ c.pass.view_is c.shared.view_is (λ (x : Told) (y : View). knows_used x y c.args.page ≡ true) c.requires.used),
+    )

@@ -12,9 +12,9 @@ join_seat-requires g c = let key = c.shared.inside.table.shared.key in let v = g
     let me = c.pass.inside.seat.me in
     let x = c.other.inside.seat.me in
     let blank : IsBlank x.0 = subst (λ p. IsBlank p.1) (sym c.other.view_is) c.requires.blank in (
-  search rules,
-  search rules,
-  none_carried x.0.holds x.1 blank.holds c.other.invariant.carries,
-  search rules,
-  join_call v.stands v.spans v.counted t _ me.0 c.pass.invariant.live _ x.0 c.other.invariant.live blank c.other.invariant.drawing c.other.invariant.rows,
-)
+      search rules,
+      search rules,
+      none_carried x.0.holds x.1 blank.holds c.other.invariant.carries,
+      search rules,
+      join_call v.stands v.spans v.counted t _ me.0 c.pass.invariant.live _ x.0 c.other.invariant.live blank c.other.invariant.drawing c.other.invariant.rows,
+    )

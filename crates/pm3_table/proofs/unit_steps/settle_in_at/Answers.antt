@@ -22,10 +22,9 @@ pub store-requires : goal.store-requires
 store-requires g c = let key = c.shared.inside.table.shared.key in let v = g.V.Chronicle in let laws = g.met.V.Chronicle in
     let t : Told = told_of v.opening key.pages key.frontier key.next_name key.turn.value in
     let me = c.pass.inside.seat.me in
-    let told_is : c.args.shared.now.1 ≡ t = ap (λ z. z.1) (sym c.shared.view_is) in
-    (
-  search rules,
-  search rules,
-  settle_in_call v.stands v.spans v.counted t _ _ _ c.pass.invariant.live (laws.frame t) (laws.alike t) _ _ _ _ c.args.space c.args.page refl (c.requires.aim.1 ∙ ap (λ (x : Told). space_unit x.pages c.args.space) told_is) c.requires.aim.0 (omega arith)
-      (within _ _ me.0 t _ _ c.pass.view_is c.shared.view_is (λ (x : Told) (y : View). MaySettle x y c.args.page) c.requires.page.1) c.requires.space.0 (within _ _ me.0 t _ _ c.pass.view_is c.shared.view_is (λ (x : Told) (y : View). holds_of y.holds (space_unit x.pages c.args.space) ≡ true) c.requires.space.1),
-)
+    let told_is : c.args.shared.now.1 ≡ t = ap (λ z. z.1) (sym c.shared.view_is) in (
+      search rules,
+      search rules,
+      settle_in_call v.stands v.spans v.counted t _ _ _ c.pass.invariant.live (laws.frame t) (laws.alike t) _ _ _ _ c.args.space c.args.page refl (c.requires.aim.1 ∙ ap (λ (x : Told). space_unit x.pages c.args.space) told_is) c.requires.aim.0 (omega arith)
+          (within _ _ me.0 t _ _ c.pass.view_is c.shared.view_is (λ (x : Told) (y : View). MaySettle x y c.args.page) c.requires.page.1) c.requires.space.0 (within _ _ me.0 t _ _ c.pass.view_is c.shared.view_is (λ (x : Told) (y : View). holds_of y.holds (space_unit x.pages c.args.space) ≡ true) c.requires.space.1),
+    )
