@@ -18,25 +18,27 @@ pub within : {A B : Type 0} (a : A) (b : B) (v : View) (t : Told) (p : A × View
 within a b v t p s vp ts P x = subst (λ (z : Told × View). P z.0 z.1) (λ i. ((sym ts i).1, (sym vp i).1)) x
 
 -- what a pass is once it gave a unit back
-pub idle_gave : {V : Type 0} (v : View) (row : ℕ) (c : List (ℕ × Option V)) (u : ℕ) → holds_of v.holds u ≡ true → IsIdle v row c → IsIdle (gave v u) row (dropped u c)
-idle_gave v row c u holds i = record {
+pub idle_gave : {V : Type 0} (v : View) (row joined : ℕ) (c : List (ℕ × Option V)) (u : ℕ) → holds_of v.holds u ≡ true → IsIdle v row joined c → IsIdle (gave v u) row joined (dropped u c)
+idle_gave v row joined c u holds i = record {
   live = i.live;
   row_is = i.row_is;
   low = i.low;
   drawing = i.drawing;
   rows = i.rows;
   last = i.last;
+  tally = i.tally;
   carries = carries_gave v.holds c u holds i.carries;
 }
 
-pub idle_turned : {V : Type 0} (v : View) (row : ℕ) (c : List (ℕ × Option V)) (turn : ℕ) (more failed : List Done) (faults : ℕ) → holds_of v.holds turn ≡ true → IsIdle v row c → IsIdle (turned turn v more failed faults) row (dropped turn c)
-idle_turned v row c turn more failed faults holds i = record {
+pub idle_turned : {V : Type 0} (v : View) (row joined : ℕ) (c : List (ℕ × Option V)) (turn : ℕ) (more failed : List Done) (faults : ℕ) → holds_of v.holds turn ≡ true → IsIdle v row joined c → IsIdle (turned turn v more failed faults) row joined (dropped turn c)
+idle_turned v row joined c turn more failed faults holds i = record {
   live = i.live;
   row_is = i.row_is;
   low = i.low;
   drawing = i.drawing;
   rows = i.rows;
   last = i.last;
+  tally = i.tally;
   carries = carries_gave v.holds c turn holds i.carries;
 }
 
@@ -51,40 +53,3 @@ none_carried holds (x ∷ xs) bare k = let a : is_in x.0 (x.0 ∷ slots_in xs) �
   where
     differs : (n : ℕ) (l : List ℕ) → is_in n (n ∷ l) ≡ false → ⊥
     differs n l e = grind (arith, nat_tests, e)
-
-pub idle_split : {V : Type 0} (v : View) (row n : ℕ) (c : List (ℕ × Option V)) → IsIdle v row c → IsIdle (left_view (drew_row v n)) row c
-idle_split v row n c i = record {
-  live = i.live;
-  row_is = i.row_is;
-  low = i.low;
-  drawing = refl;
-  rows = i.rows;
-  last = refl;
-  carries = i.carries;
-}
-
-pub idle_new : {V : Type 0} (v : View) (n : ℕ) → n < 32 → IsIdle {V = V} (new_view n v) n []
-idle_new v n low = record {
-  live = refl;
-  row_is = refl;
-  low = low;
-  drawing = refl;
-  rows = refl;
-  last = refl;
-  carries = record { same = λ u. refl; once = tt; empty = tt };
-}
-
-pub idle_joined : {V : Type 0} (v x : View) (row : ℕ) (c : List (ℕ × Option V)) → IsIdle v row c → IsIdle (both_views v x) row c
-idle_joined v x row c i = record {
-  live = i.live;
-  row_is = i.row_is;
-  low = i.low;
-  drawing = i.drawing;
-  rows = i.rows;
-  last = refl;
-  carries = i.carries;
-}
-
--- a mutator that split off another is as it was
-pub split_same : {V : Type 0} (v : View) (row n : ℕ) (c : List (ℕ × Option V)) → IsIdle v row c → left_view (drew_row v n) ≡ v
-split_same v row n c i = λ j. record v { drawing = sym i.drawing j; last = sym i.last j }

@@ -27,3 +27,4 @@ pub mod UnitCalls
 pub mod Asked
 pub mod SeatCalls
 pub mod LawsKept
+pub mod Closes

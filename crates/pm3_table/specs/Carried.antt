@@ -1,5 +1,5 @@
 -- What a pass carries: the slot of each unit that it holds, empty.
-use Rattle.std.specs.Prelude.{◌≡◌, ℕ, ◌<◌, ◌==◌, ◌+◌, Bool, true, false, if◌then◌else◌, List, [], ◌∷◌, map, Option, None}
+use Rattle.std.specs.Prelude.{◌≡◌, ℕ, ◌<◌, ◌==◌, ◌+◌, Bool, true, false, if◌then◌else◌, List, [], ◌∷◌, map, min, length, Option, None}
 use Rattle.pm3_table.specs.declared.view.Hold.{Hold}
 use Rattle.pm3_table.specs.declared.view.View.{View}
 use Rattle.pm3_table.specs.Counts.{Distinct}
@@ -26,12 +26,14 @@ pub record Carries {V : Type 0} (holds : List Hold) (carried : List (ℕ × Opti
   pub once : Distinct (slots_in carried)
   pub empty : AreEmpty carried
 
--- between two calls a pass draws nothing, has no row for another, and carries the slots of what it holds
-pub record IsIdle {V : Type 0} (v : View) (row : ℕ) (carried : List (ℕ × Option V)) : Type 0 where
+-- Between two calls a pass draws nothing, has no row for another, and carries the slots of what it holds. It counts itself
+-- and the mutators that it keeps, up to one more than there can be.
+pub record IsIdle {V : Type 0} (v : View) (row joined : ℕ) (carried : List (ℕ × Option V)) : Type 0 where
   pub live : v.live ≡ true
   pub row_is : v.row ≡ row
   pub low : row < 32
   pub drawing : v.drawing ≡ 0
   pub rows : v.rows ≡ []
   pub last : v.last ≡ false
+  pub tally : joined ≡ min (length v.kept + 1) 33
   pub carries : Carries v.holds carried

@@ -23,3 +23,4 @@ pub mod Carried
 pub mod Passes
 pub mod Plays
 pub mod Laws
+pub mod Closing

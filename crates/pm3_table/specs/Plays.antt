@@ -1,5 +1,5 @@
 -- What single steps tell of the view after them.
-use Rattle.std.specs.Prelude.{◌≡◌, ◌≢◌, ℕ, ◌+◌, ◌<◌, ◌≤◌, ◌==◌, true, false, if◌then◌else◌, List, ◌∷◌, ◌++◌, Option, None}
+use Rattle.std.specs.Prelude.{◌≡◌, ◌≢◌, ℕ, ◌+◌, ◌<◌, ◌≤◌, ◌==◌, true, false, if◌then◌else◌, min, length, List, ◌∷◌, ◌++◌, Option, None}
 use Rattle.atomic_table.specs.Table.{Step, Me, rest}
 use Rattle.pm3_history.specs.Entry.{Done}
 use Rattle.pm3_table.specs.declared.view.Deed.TheVariants.{Stored, Stood, Marked, Found, Unmarked}
@@ -90,3 +90,7 @@ abbrev pub takes : {V : Type 0} → (Told → List Done → List Done → ℕ �
 takes {V} stands spans counted told u st me n me' =
     (n ≢ 0 → me' ≡ (refused me.0 u n, me.1))
     × (n ≡ 0 → (slot : Option V) × Taken stands spans counted told me.0 me'.0 u slot × (me'.1 ≡ (u, slot) ∷ me.1))
+
+-- a load of the row counter, by which a mutator sees whether all others were joined into it
+abbrev pub lasts : {S : Type 0} → Step S → Me S View → ℕ → Me S View → Type 0
+lasts st me n me' = me' ≡ (record me.0 { last = min n 32 == length me.0.kept + 1 }, me.1)

@@ -24,6 +24,7 @@ mod plays;
 mod shared;
 
 // Single steps, one public call each.
+mod closing;
 mod draw_steps;
 mod row_steps;
 mod seats;
@@ -34,6 +35,7 @@ mod unit_steps;
 mod law;
 
 pub use chronicle::Chronicle;
+pub use closing::{NotAll, close};
 pub use draw_steps::{NAMES, draw_name, draw_page};
 pub use entry::{Commit, Opening};
 pub use law::table_law;

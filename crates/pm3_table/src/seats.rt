@@ -34,6 +34,7 @@ fn split_at<V: Chronicle, J: Aim>(shared: &Shared<V>, pass: &mut Pass<V>) -> Opt
     Some(Pass {
         seat,
         row: row as u32,
+        joined: 1,
     })
 }
 
@@ -54,7 +55,12 @@ pub fn join<V: Chronicle>(shared: &Shared<V>, pass: &mut Pass<V>, other: Pass<V>
     requires blank { IsBlank other.1 }
     ensures { Becomes pass.old pass.new (both_views pass.old.1 other.1) }
 {
-    let Pass { seat, row: _ } = other;
+    let Pass {
+        seat,
+        row: _,
+        joined,
+    } = other;
+    pass.joined = (pass.joined + joined).min(33);
     shared.table.shared.join_seat::<Glue>(&mut pass.seat, seat);
 }
 

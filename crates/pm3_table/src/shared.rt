@@ -30,11 +30,12 @@ impl<V: Chronicle> Model for Shared<V> {
     ghost invariant = { λ s. IsLaidOut s.table.shared.table_id s.pages s.table.shared.key.pages };
 }
 
-/// The token of one mutator: its seat, and the number of its row. Contracts see which table it belongs to, and its view.
+/// The token of one mutator: its seat, the number of its row, and how many were joined into it. Contracts see which table it belongs to, and its view.
 #[derive(Drop)]
 pub struct Pass<V> {
     pub(crate) seat: Seat<Option<V>, View>,
     pub(crate) row: u32,
+    pub(crate) joined: u32,
 }
 
 impl<V> Model for Pass<V> {
@@ -50,5 +51,5 @@ impl<V> Model for Pass<V> {
 
     ghost view = { λ p. (p.seat.table_id, p.seat.me.0) };
 
-    ghost invariant = { λ p. IsIdle p.seat.me.0 p.row p.seat.me.1 };
+    ghost invariant = { λ p. IsIdle p.seat.me.0 p.row p.joined p.seat.me.1 };
 }

@@ -45,7 +45,14 @@ pub fn start<V: Chronicle>(
         turn,
     };
     match Table::new(alloc, &words, homes, &key) {
-        Ok((table, seat)) => Ok((Shared { table, pages }, Pass { seat, row: 0 })),
+        Ok((table, seat)) => Ok((
+            Shared { table, pages },
+            Pass {
+                seat,
+                row: 0,
+                joined: 1,
+            },
+        )),
         Err(Refused { slots }) => Err(slots),
     }
 }

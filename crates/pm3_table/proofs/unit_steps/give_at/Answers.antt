@@ -57,4 +57,4 @@ invariant_of-pass g c = let key = c.shared.inside.table.shared.key in let v = g.
     let up : c.load.new.seat.me ≡ (me.0, (c.args.unit, None) ∷ d) = subst (λ u. c.load.new.seat.me ≡ (me.0, (u, None) ∷ dropped u me.1)) c.requires.aim c.load.ensures.2 in
     let now : c.exchange-held.new.seat.me ≡ (me.0, (c.args.unit, c.args.slot) ∷ d) = c.exchange-held.ensures.3 ∙ ap (λ m. (m.0, (c.args.unit, c.args.slot) ∷ rest m.1)) up in
     let gone : c.store.new.seat.me ≡ (gave me.0 c.args.unit, d) = subst (λ u. c.store.new.seat.me ≡ (gave c.exchange-held.new.seat.me.0 u, rest c.exchange-held.new.seat.me.1)) c.requires.aim c.store.ensures.2 ∙ ap (λ m. (gave m.0 c.args.unit, rest m.1)) now in
-    subst (λ (m : Me (Option g.row.V.Denot) View). IsIdle m.0 c.pass.inside.row m.1) (sym gone) (idle_gave me.0 c.pass.inside.row me.1 c.args.unit held c.pass.invariant)
+    subst (λ (m : Me (Option g.row.V.Denot) View). IsIdle m.0 c.pass.inside.row c.pass.inside.joined m.1) (sym gone) (idle_gave me.0 c.pass.inside.row c.pass.inside.joined me.1 c.args.unit held c.pass.invariant)

@@ -68,7 +68,7 @@ invariant_of-pass g c = let key = c.shared.inside.table.shared.key in let v = g.
     let now : c.exchange-held.new.seat.me ≡ (me.0, (u, Some c.args.value) ∷ d) = c.exchange-held.ensures.3 ∙ (λ i. ((up i).0, (slot_is i, Some c.args.value) ∷ rest (up i).1)) in
     let gone : c.store.new.seat.me ≡ (turned u me.0 g.J.Aim.more g.J.Aim.failed (v.counted c.args.value), d) =
     subst (λ (z : ℕ × Me (Option g.row.V.Denot) View). (x : Option g.row.V.Denot) → z.1.1 ≡ (z.0, x) ∷ rest z.1.1 → c.store.new.seat.me ≡ (turned z.0 z.1.0 g.J.Aim.more g.J.Aim.failed (counted_in v.counted x), rest z.1.1)) (λ i. (at_is i, now i)) c.store.ensures.2 (Some c.args.value) refl in
-    subst (λ (m : Me (Option g.row.V.Denot) View). IsIdle m.0 c.pass.inside.row m.1) (sym gone) (idle_turned me.0 c.pass.inside.row me.1 u g.J.Aim.more g.J.Aim.failed (v.counted c.args.value) held c.pass.invariant)
+    subst (λ (m : Me (Option g.row.V.Denot) View). IsIdle m.0 c.pass.inside.row c.pass.inside.joined m.1) (sym gone) (idle_turned me.0 c.pass.inside.row c.pass.inside.joined me.1 u g.J.Aim.more g.J.Aim.failed (v.counted c.args.value) held c.pass.invariant)
 
 pub returns : goal.returns
 returns g c = let key = c.shared.inside.table.shared.key in let v = g.V.Chronicle in let laws = g.met.V.Chronicle in
