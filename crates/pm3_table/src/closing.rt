@@ -13,6 +13,7 @@ use pm3_core::PLACES;
 use std::alloc::Global;
 
 /// Mutators were made that were not joined. The table and the pass come back.
+#[derive(Drop)]
 pub struct NotAll<V: Chronicle> {
     pub made: u32,
     pub joined: u32,

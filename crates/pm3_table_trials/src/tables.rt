@@ -1,9 +1,11 @@
 //! A table of sixteen pages, all of them in use.
 ghost use Rattle.std.specs.Prelude.{◌≡◌, ℕ, IfOk, Some, replicate};
+ghost use Rattle.std.specs.Mem.Slots.{IsFull};
 ghost use Rattle.pm3_table.specs.Passes.{IsOf};
 ghost use Rattle.pm3_table.specs.Starting.{first_view};
 
 use crate::tallies::Tally;
+use atomic_table::Closed;
 use pm3_table::{Pass, Shared, start};
 use std::alloc::{AllocError, Global};
 use std::snapshot::Snapshot;
@@ -33,4 +35,16 @@ pub fn sixteen(alloc: Global) -> Result<(Shared<Tally>, Pass<Tally>), AllocError
         return Err(AllocError);
     };
     Ok(made)
+}
+
+/// Lets the values of a closed table go.
+pub fn drain(mut closed: Closed<Option<Tally>, Global>)
+    requires { IsFull closed.slots }
+{
+    let mut i = 0;
+    while i < closed.slot_count() {
+        drop(closed.take(i));
+        i += 1;
+    }
+    closed.free();
 }

@@ -25,9 +25,7 @@ impl Chronicle for Tally {
         0
     }
 
-    ghost frame = {
-        λ told lost h e u x free is. is ∙ sym (one_more (names told) h e u free)
-    };
+    ghost frame = { λ told lost h e u x free is. is ∙ sym (one_more (names told) h e u free) };
 
     ghost alike = { λ told lost more h u x other is. is };
 }

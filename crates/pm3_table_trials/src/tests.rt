@@ -2,14 +2,20 @@
 use super::*;
 use pm3_locks::{Busy, Full, Limit, Unit, draw_name, draw_page, take};
 use pm3_rows::{Words, clear, read_one, scan, store_word, validate};
-use pm3_table::split;
+use pm3_table::{NotAll, close, join, split};
 use std::test::Fail;
 
 #[test]
 fn a_drawn_name_is_the_first_and_no_page_is_left(rt: HostRuntime) -> Result<(), Fail> {
     let (shared, mut first) = sixteen(rt.alloc())?;
     assert_eq!(rt; draw_name(&shared, &mut first), Ok(1));
-    assert_eq!(rt; draw_page(&shared, &mut first), Err(Full { what: Limit::Pages, limit: 16 }));
+    assert_eq!(rt;
+        draw_page(&shared, &mut first),
+        Err(Full {
+            what: Limit::Pages,
+            limit: 16
+        })
+    );
     Ok(())
 }
 
@@ -23,7 +29,13 @@ fn a_held_unit_shows_its_holder(rt: HostRuntime) -> Result<(), Fail> {
     let Err(busy) = take(&shared, &mut second, Unit::Page(2)) else {
         return Err(Fail::new("not refused"));
     };
-    assert_eq!(rt; busy, Busy { unit: Unit::Page(2), word: 1 });
+    assert_eq!(rt;
+        busy,
+        Busy {
+            unit: Unit::Page(2),
+            word: 1
+        }
+    );
     Ok(())
 }
 
@@ -47,4 +59,51 @@ fn a_scan_reads_every_place(rt: HostRuntime) -> Result<(), Fail> {
     assert_eq!(rt; words.get(0, 511), 9);
     assert_eq!(rt; words.get(31, 511), 0);
     Ok(())
+}
+
+#[test]
+fn two_threads_write_their_rows(rt: HostRuntime) -> Result<(), Fail> {
+    let (shared, mut first) = sixteen(rt.alloc())?;
+    let Some(second) = split(&shared, &mut first) else {
+        return Err(Fail::new("no row"));
+    };
+    let ((_, one), (_, other)) = write_both(&rt, &shared, first, second);
+    assert_eq!(rt; one, 7);
+    assert_eq!(rt; other, 8);
+    Ok(())
+}
+
+#[test]
+fn a_table_with_another_mutator_is_not_closed(rt: HostRuntime) -> Result<(), Fail> {
+    let (shared, mut first) = sixteen(rt.alloc())?;
+    let Some(_second) = split(&shared, &mut first) else {
+        return Err(Fail::new("no row"));
+    };
+    match close(shared, first) {
+        Ok(closed) => {
+            drain(closed);
+            Err(Fail::new("closed"))
+        }
+        Err(NotAll { made, joined, .. }) => {
+            assert_eq!(rt; made, 2);
+            assert_eq!(rt; joined, 1);
+            Ok(())
+        }
+    }
+}
+
+#[test]
+fn a_table_is_closed_once_all_are_joined(rt: HostRuntime) -> Result<(), Fail> {
+    let (shared, mut first) = sixteen(rt.alloc())?;
+    let Some(second) = split(&shared, &mut first) else {
+        return Err(Fail::new("no row"));
+    };
+    join(&shared, &mut first, second);
+    match close(shared, first) {
+        Ok(closed) => {
+            drain(closed);
+            Ok(())
+        }
+        Err(NotAll { .. }) => Err(Fail::new("not closed")),
+    }
 }
