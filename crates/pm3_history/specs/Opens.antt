@@ -8,20 +8,20 @@ use Rattle.pm3_types.specs.declared.type_map.Tail.TheVariants.{Empty, Refs, Byte
 use Rattle.pm3_types.specs.Graph.{Part}
 use Rattle.pm3_types.specs.Layout.{Sheet}
 use Rattle.pm3_types.specs.Shown.{Images}
-use Rattle.pm3_journal.specs.Heads.{Head}
-use Rattle.pm3_journal.specs.Shown.{head_code}
-use Rattle.pm3_journal.specs.Head.{page_count_of}
+use Rattle.pm3_journal.specs.Summaries.{Summary}
+use Rattle.pm3_journal.specs.Codes.{summary_code}
+use Rattle.pm3_journal.specs.FileHead.{page_count_of}
 use Rattle.pm3_journal.specs.Opening.{OpenTo}
 use Rattle.pm3_history.specs.Entry.{Done, images_code}
 use Rattle.pm3_history.specs.State.{State, opening_state}
 use Rattle.pm3_history.specs.Lawful.{AreLawful}
 
--- The catalog, the images that were opened, the heads of the journal's records, the sequence number that is due first, and
+-- The catalog, the images that were opened, the summaries of the journal's records, the sequence number that is due first, and
 -- the bytes that the two devices tell, or none.
 pub record Origin : Type 0 where
   pub catalog : List Fields
   pub images : Images
-  pub heads : List Head
+  pub summaries : List Summary
   pub due : ℕ
   pub file : Option (List ℕ)
   pub journal : Option (List ℕ)
@@ -68,8 +68,8 @@ fields_code =
 
 abbrev pub origin_code : Coded Origin
 origin_code =
-    code_by (List Fields × (Images × (List Head × (ℕ × (Option (List ℕ) × Option (List ℕ))))))
-    (coded× (coded_list fields_code) (coded× images_code (coded× (coded_list head_code) (coded× coded_ℕ (coded× (coded_option (coded_list coded_ℕ)) (coded_option (coded_list coded_ℕ)))))))
-    (λ o. (o.catalog, (o.images, (o.heads, (o.due, (o.file, o.journal))))))
-    (λ p. record { catalog = p.0; images = p.1.0; heads = p.1.1.0; due = p.1.1.1.0; file = p.1.1.1.1.0; journal = p.1.1.1.1.1 })
+    code_by (List Fields × (Images × (List Summary × (ℕ × (Option (List ℕ) × Option (List ℕ))))))
+    (coded× (coded_list fields_code) (coded× images_code (coded× (coded_list summary_code) (coded× coded_ℕ (coded× (coded_option (coded_list coded_ℕ)) (coded_option (coded_list coded_ℕ)))))))
+    (λ o. (o.catalog, (o.images, (o.summaries, (o.due, (o.file, o.journal))))))
+    (λ p. record { catalog = p.0; images = p.1.0; summaries = p.1.1.0; due = p.1.1.1.0; file = p.1.1.1.1.0; journal = p.1.1.1.1.1 })
     (λ _. refl)

@@ -50,5 +50,5 @@ blank_told = record {
   pages = 0;
   frontier = 0;
   next_name = 0;
-  opening = record { catalog = []; images = empty; heads = []; due = 0; file = None; journal = None };
+  opening = record { catalog = []; images = empty; summaries = []; due = 0; file = None; journal = None };
 }

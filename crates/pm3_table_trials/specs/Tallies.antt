@@ -17,4 +17,4 @@ one_more has (x ∷ xs) e n free = ap (λ (k : ℕ). (if has x n then 1 else 0) 
 
 -- an opening of which nothing is told
 abbrev pub untold : Origin
-untold = record { catalog = []; images = empty; heads = []; due = 0; file = None; journal = None }
+untold = record { catalog = []; images = empty; summaries = []; due = 0; file = None; journal = None }
