@@ -8,10 +8,12 @@ use Rattle.std.specs.Ordering.{nat_cmp}
 use mathlib.Core.Bool.{true≢false}
 use Rattle.pm3_types.specs.Layout.{Sheet, PageImage}
 use Rattle.pm3_types.specs.Shown.{Images}
-use Rattle.pm3_access.specs.Acts.{sheet_in, sheets_of, space_found, left_images, found_images, AreInPlace}
+use Rattle.pm3_page.specs.PageSheets.{sheet_in, sheets_of}
+use Rattle.pm3_page.proofs.SheetsOf.{get-sheets_of}
+use Rattle.pm3_access.specs.Acts.{space_found, left_images, found_images, AreInPlace}
 use Rattle.pm3_access.specs.Holding.{Holding, HeldSpaceState, SpaceState, image_in, space_now, admitted, with_held_space}
 use Rattle.pm3_access.proofs.Homes as images_at
-use Rattle.pm3_access.proofs.HeldSheets.{sheet_same, sheet_other, get-left_images, get-found_images, get-sheets_of}
+use Rattle.pm3_access.proofs.HeldSheets.{sheet_same, sheet_other, get-left_images, get-found_images}
 use Rattle.pm3_access.proofs.JoinedParts.{AreJoined}
 
 abbrev pub alone : PageImage → Images

@@ -7,7 +7,8 @@ use Rattle.pm3_types.specs.Layout.{PageImage}
 use Rattle.pm3_access.specs.declared.places.Place.{Place}
 use Rattle.pm3_access.specs.declared.places.NoPlace.{NoPlace}
 use Rattle.pm3_access.specs.Access.{value_held, value_written}
-use Rattle.pm3_access.specs.Acts.{AreInPlace, IsReadStep, IsWriteStep, IsMakeStep, MayBeMade, HaveGrown, sheets_of, left_images, found_images, left_part, found_part, image_part, space_part}
+use Rattle.pm3_page.specs.PageSheets.{sheets_of}
+use Rattle.pm3_access.specs.Acts.{AreInPlace, IsReadStep, IsWriteStep, IsMakeStep, MayBeMade, HaveGrown, left_images, found_images, left_part, found_part, image_part, space_part}
 use Rattle.pm3_access.specs.Sound.{HasLowPage}
 use Rattle.pm3_access.specs.Holding.{Holding, SpaceState, image_in, admitted, with_held_space}
 use Rattle.pm3_access.specs.Making.{IsMade, current_image}

@@ -11,7 +11,8 @@ use Rattle.pm3_types.specs.Record.{Record}
 use Rattle.pm3_types.specs.Layout.{Sheet, PageImage, blank_sheet, is_forwarded, is_address, page_in, word_in}
 use Rattle.pm3_types.specs.Shown.{Book, Images, FitsImages, record_at, object_in, object_at, roots_in, shown_records, shown}
 use Rattle.pm3_types.proofs.Books.{shown_alike}
-use Rattle.pm3_access.specs.Acts.{sheet_in, space_found, left_images, found_images, left_part, AreInPlace}
+use Rattle.pm3_page.specs.PageSheets.{sheet_in}
+use Rattle.pm3_access.specs.Acts.{space_found, left_images, found_images, left_part, AreInPlace}
 use Rattle.pm3_access.specs.Holding.{Holding, HeldImages, HeldSpaceState, image_in, space_now, grown, by_space}
 use Rattle.pm3_access.proofs.Homes as images_at
 use Rattle.pm3_access.proofs.Homes.{some_of, is_some_none}

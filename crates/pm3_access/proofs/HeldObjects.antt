@@ -10,7 +10,8 @@ use Rattle.pm3_types.specs.PageForm.{map_at, tail_at}
 use Rattle.pm3_types.specs.Shown.{Book, Images, FitsImages, record_by, record_at, object_in, shown_records}
 use Rattle.pm3_types.proofs.Books.{shown_at}
 use Rattle.pm3_access.specs.Access.{begins_in, is_object_held, HaveForm, ImageHasForm}
-use Rattle.pm3_access.specs.Acts.{sheet_in, left_images, map_by, map_held, IsHeldAs}
+use Rattle.pm3_page.specs.PageSheets.{sheet_in}
+use Rattle.pm3_access.specs.Acts.{left_images, map_by, map_held, IsHeldAs}
 use Rattle.pm3_access.specs.Holding.{Holding, image_in}
 use Rattle.pm3_access.proofs.HeldSheets.{get-left_images}
 use Rattle.pm3_access.proofs.Within.{objects_of, start_of, some_map, is_unmoved, address_held}

@@ -1,18 +1,19 @@
 -- The sheets of what is held, page by page.
-use Rattle.std.proofs.Common.{◌≡◌, ◌≢◌, ℕ, Bool, true, false, cond, List, [], ◌∷◌, Option, None, Some, is_some, refl, sym, ap, ◌∙◌, inl, inr}
+use Rattle.std.proofs.Common.{◌≡◌, ◌≢◌, ℕ, Bool, true, false, cond, List, Option, None, Some, is_some, refl, sym, ap, ◌∙◌, inl, inr}
 use Rattle.std.proofs.lemmas.Bool.{cases_eq, eq-eqb, ne_eqb}
 use Rattle.std.specs.Option.{option_map, option_or}
-use Rattle.std.specs.Ordering.{nat_cmp, eq_by_cmp}
+use Rattle.std.specs.Ordering.{nat_cmp}
 use Rattle.std.specs.Cmp.{nat_cmp_total, unsigned_tied}
 use Rattle.std.specs.FinMap as map
-use Rattle.std.specs.FinMap.{find, nat_cmp-IsAntisymmetric, same_map, get-empty, get-insert, get-entries}
+use Rattle.std.specs.FinMap.{nat_cmp-IsAntisymmetric, same_map, get-empty, get-insert}
 use Rattle.pm3_types.specs.Fields.{Fields}
 use Rattle.pm3_types.specs.Layout.{Sheet, PageImage, page_in, word_in}
 use Rattle.pm3_types.specs.Shown.{Images}
-use Rattle.pm3_page.specs.PageMap as page_map
 use Rattle.pm3_access.specs.declared.places.Place.{Place}
 use Rattle.pm3_access.specs.Access.{written_by, written_in_space, value_written}
-use Rattle.pm3_access.specs.Acts.{sheet_in, sheets_over, sheets_of, space_left, space_found, left_images, found_images}
+use Rattle.pm3_page.specs.PageSheets.{sheet_in}
+use Rattle.pm3_page.proofs.SheetsOf.{get-over, get-sheets_of}
+use Rattle.pm3_access.specs.Acts.{space_left, space_found, left_images, found_images}
 use Rattle.pm3_access.specs.Holding.{Holding, HeldSpaceState, image_in, space_now, with_image, space_with}
 use Rattle.pm3_access.proofs.Homes as images_at
 use Rattle.pm3_access.proofs.Homes.{some_of, is_some_none}
@@ -22,28 +23,6 @@ sheet_same images page q sheet is = get-insert nat_cmp_total images page sheet q
 
 pub sheet_other : (images : Images) (page q : ℕ) (sheet : Sheet) → q ≢ page → map.get (map.insert images page sheet) q ≡ map.get images q
 sheet_other images page q sheet ne = get-insert nat_cmp_total images page sheet q ∙ ap (λ (b : Bool). cond b (Some sheet) (map.get images q)) (unsigned_tied q page ∙ ne_eqb q page ne)
-
-chosen : (b : Bool) (image : PageImage) (o : Option PageImage) (p : Option Sheet) → cond b (Some image.sheet) (option_or (sheet_in o) p) ≡ option_or (sheet_in (cond b (Some image) o)) p
-chosen true image o p = refl
-chosen false image o p = refl
-
--- the sheet of a page is that of its image, or the hidden one
-get-sheets_over : (es : List (ℕ × PageImage)) (images : Images) (q : ℕ) → map.get (sheets_over es images) q ≡ option_or (sheet_in (find nat_cmp q es)) (map.get images q)
-get-sheets_over [] images q = refl
-get-sheets_over (e ∷ es) images q =
-    get-insert nat_cmp_total (sheets_over es images) e.0 e.1.sheet q
-    ∙ ap (cond (eq_by_cmp nat_cmp q e.0) (Some e.1.sheet)) (get-sheets_over es images q)
-    ∙ chosen (eq_by_cmp nat_cmp q e.0) e.1 (find nat_cmp q es) (map.get images q)
-
-get_over : (pages : page_map.Images) (images : Images) (q : ℕ) → map.get (sheets_over (map.entries pages) images) q ≡ option_or (sheet_in (map.get pages q)) (map.get images q)
-get_over pages images q = get-sheets_over (map.entries pages) images q ∙ ap (λ (o : Option PageImage). option_or (sheet_in o) (map.get images q)) (sym (get-entries pages q))
-
-or_none : (o : Option Sheet) → option_or o None ≡ o
-or_none None = refl
-or_none (Some sheet) = refl
-
-pub get-sheets_of : (pages : page_map.Images) (q : ℕ) → map.get (sheets_of pages) q ≡ sheet_in (map.get pages q)
-get-sheets_of pages q = get_over pages map.empty q ∙ ap (option_or (sheet_in (map.get pages q))) (get-empty nat_cmp q) ∙ or_none (sheet_in (map.get pages q))
 
 either : (o p : Option PageImage) → option_or (sheet_in o) (sheet_in p) ≡ sheet_in (option_or o p)
 either None p = refl
@@ -56,11 +35,11 @@ get-space_left (Some s) q = get-sheets_of s.images.left q
 -- the sheets as they are now are those of the images
 pub get-left_images : (h : Holding) (q : ℕ) → map.get (left_images h) q ≡ sheet_in (image_in h q)
 get-left_images h q =
-    get_over h.pages.left (space_left h.space) q ∙ ap (option_or (sheet_in (map.get h.pages.left q))) (get-space_left h.space q)
+    get-over h.pages.left (space_left h.space) q ∙ ap (option_or (sheet_in (map.get h.pages.left q))) (get-space_left h.space q)
     ∙ either (map.get h.pages.left q) (space_now h.space q)
 
 pub get-found_images : (h : Holding) (q : ℕ) → map.get (found_images h) q ≡ option_or (sheet_in (map.get h.pages.found q)) (map.get (space_found h.space) q)
-get-found_images h q = get_over h.pages.found (space_found h.space) q
+get-found_images h q = get-over h.pages.found (space_found h.space) q
 
 -- what is held with another image of one page
 abbrev pub changed_by : Option PageImage → Holding → ℕ → PageImage → Holding

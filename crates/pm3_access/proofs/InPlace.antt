@@ -11,11 +11,13 @@ use Rattle.pm3_types.specs.Fields.{Fields}
 use Rattle.pm3_types.specs.Layout.{Sheet, PageImage, page_in, word_in}
 use Rattle.pm3_access.specs.declared.places.Place.{Place}
 use Rattle.pm3_access.specs.Access.{written_by, value_written}
-use Rattle.pm3_access.specs.Acts.{sheet_in, space_found, found_images, AreInPlace}
+use Rattle.pm3_page.specs.PageSheets.{sheet_in}
+use Rattle.pm3_page.proofs.SheetsOf.{get-sheets_of}
+use Rattle.pm3_access.specs.Acts.{space_found, found_images, AreInPlace}
 use Rattle.pm3_access.specs.Holding.{Holding, HeldSpaceState, SpaceState, nothing_held, image_in, space_now, space_with, admitted, with_held_space, grown, by_space}
 use Rattle.pm3_access.proofs.Homes as images_at
 use Rattle.pm3_access.proofs.Homes.{some_of, is_some_none, nothing_there}
-use Rattle.pm3_access.proofs.HeldSheets.{get-sheets_of, get-found_images, changed, changed_by, changed_here, changed_else, written_is}
+use Rattle.pm3_access.proofs.HeldSheets.{get-found_images, changed, changed_by, changed_here, changed_else, written_is}
 use Rattle.pm3_access.proofs.AdmitSteps.{found_joined, space_found_joined, left_here, left_else, none_else, left_alone}
 use Rattle.pm3_access.proofs.Writing.{page_kept}
 

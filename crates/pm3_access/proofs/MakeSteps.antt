@@ -13,7 +13,8 @@ use Rattle.pm3_access.specs.Access.{ImageHasForm}
 use Rattle.pm3_types.specs.Shown.{Book, Images, FitsImages, shown}
 use Rattle.pm3_graph.specs.declared.operations.Op.TheVariants as ops
 use Rattle.pm3_graph.specs.Operation.{new_of, unless_taken, IsStep}
-use Rattle.pm3_access.specs.Acts.{sheet_in, left_images, left_part, AreInPlace, IsNewName, MayBeMade}
+use Rattle.pm3_page.specs.PageSheets.{sheet_in}
+use Rattle.pm3_access.specs.Acts.{left_images, left_part, AreInPlace, IsNewName, MayBeMade}
 use Rattle.pm3_access.specs.Sound.{HasLowPage}
 use Rattle.pm3_access.specs.Holding.{Holding, HeldSpaceState, image_in, space_now, space_with}
 use Rattle.pm3_access.specs.Making.{has_space_for, has_room_for, next_address, current_in, current_image, space_made, IsMade}

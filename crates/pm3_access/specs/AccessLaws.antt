@@ -10,12 +10,13 @@ use Rattle.pm3_graph.specs.declared.operations.Op.TheVariants as ops
 use Rattle.pm3_graph.specs.declared.operations.PlainFault.TheVariants as faults
 use Rattle.pm3_access.specs.declared.places.Place as place
 use Rattle.pm3_access.specs.Access.{AreSound, HaveForm, is_object_held, value_held, value_written}
-use Rattle.pm3_access.specs.Acts.{AreInPlace, IsHeldAs, IsNewName, MayBeMade, sheets_of, left_images, found_images, left_part, found_part, image_part, space_part, map_held, read_op, write_op, answer_of}
+use Rattle.pm3_access.specs.Acts.{AreInPlace, IsHeldAs, IsNewName, MayBeMade, left_images, found_images, left_part, found_part, image_part, space_part, map_held, read_op, write_op, answer_of}
 use Rattle.pm3_access.specs.Making.{IsMade, current_image}
 use Rattle.pm3_access.specs.Sound.{HasLowPage}
 use Rattle.pm3_access.specs.Spots.{IsValueFor, has_names}
 use Rattle.pm3_access.specs.Holding.{Holding, HeldSpaceState, SpaceState, image_in, admitted, with_held_space, by_space, grown}
 use Rattle.pm3_page.specs.PageMap.{IsAtHome}
+use Rattle.pm3_page.specs.PageSheets.{sheets_of}
 
 -- A read of a place of an object that is held is a read of that place of its record: the answer is the value, or the name that
 -- the value stands for.

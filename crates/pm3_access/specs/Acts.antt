@@ -1,9 +1,8 @@
 -- Accesses to what is held, as operations on the part of a graph that its images show.
-use Rattle.std.specs.Prelude.{ℕ, ◌≡◌, ◌≢◌, ◌^◌, ◌<◌, Bool, true, false, cond, List, [], ◌∷◌, length, Option, None, Some, Err, slice_get}
+use Rattle.std.specs.Prelude.{ℕ, ◌≡◌, ◌≢◌, ◌^◌, ◌<◌, Bool, true, false, cond, List, length, Option, None, Some, Err, slice_get}
 use Rattle.std.specs.FinMap.{get, insert, empty, entries, contains_key}
-use Rattle.std.specs.Option.{option_map}
 use Rattle.pm3_types.specs.Fields.{Fields, is_reference}
-use Rattle.pm3_types.specs.Layout.{Sheet, PageImage, has_tail, page_in, word_in}
+use Rattle.pm3_types.specs.Layout.{PageImage, has_tail, page_in, word_in}
 use Rattle.pm3_types.specs.PageForm.{map_at}
 use Rattle.pm3_types.specs.Graph.{Part, with_part}
 use Rattle.pm3_types.specs.Shown.{Book, Images, FitsImages, IsKnown, name_by, shown}
@@ -11,25 +10,12 @@ use Rattle.pm3_graph.specs.Operation.{IsStep, outcome}
 use Rattle.pm3_graph.specs.declared.operations.PlainFault.TheVariants as faults
 use Rattle.pm3_graph.specs.declared.operations.Op.{Op}
 use Rattle.pm3_graph.specs.declared.operations.Op.TheVariants as ops
-use Rattle.pm3_page.specs.PageMap as page_map
+use Rattle.pm3_page.specs.PageSheets.{sheets_over, sheets_of}
 use Rattle.pm3_access.specs.declared.places.Place.{Place}
 use Rattle.pm3_access.specs.declared.places.Place.TheVariants.{Field, Tail, Byte}
 use Rattle.pm3_access.specs.Access.{is_object_held, HaveForm}
 use Rattle.pm3_access.specs.Spots.{has_names}
 use Rattle.pm3_access.specs.Holding.{Holding, HeldSpaceState, SpaceState, image_in, space_now}
-
--- the sheet of an image, if there is one
-abbrev pub sheet_in : Option PageImage → Option Sheet
-sheet_in o = option_map (λ image. image.sheet) o
-
--- the sheets of these images laid over others, which they hide
-abbrev pub sheets_over : List (ℕ × PageImage) → Images → Images
-sheets_over [] images = images
-sheets_over (e ∷ es) images = insert (sheets_over es images) e.0 e.1.sheet
-
--- the sheets of images, by their pages
-abbrev pub sheets_of : page_map.Images → Images
-sheets_of images = sheets_over (entries images) empty
 
 -- the sheets of a space, as they are now and as they were found
 abbrev pub space_left : Option HeldSpaceState → Images

@@ -1,5 +1,6 @@
 use Rattle.std.specs.FinMap.{insert, empty}
-use Rattle.pm3_access.specs.Acts.{sheets_of, left_images, found_images}
+use Rattle.pm3_page.specs.PageSheets.{sheets_of}
+use Rattle.pm3_access.specs.Acts.{left_images, found_images}
 use Rattle.pm3_access.specs.Holding.{admitted, with_held_space}
 use Rattle.pm3_access.proofs.JoinedParts.{shown_joined, fits_joined}
 use Rattle.pm3_access.proofs.AdmitSteps.{left_joined, found_joined, space_left_joined, space_found_joined}
