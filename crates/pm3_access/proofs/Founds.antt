@@ -37,7 +37,7 @@ insert_all old page image before there all q none = elim (cases_eq q page) [
   | inr ne ↦ get_other old.left page q image ne ∙ all q none
 ]
 
-change_all : (old new : HeldImages) (page : ℕ) (before : PageImage) (o : Option PageImage) → map.get old.left page ≡ Some before → option_map (with_image old page) o ≡ Some new → All old → All new
+pub change_all : (old new : HeldImages) (page : ℕ) (before : PageImage) (o : Option PageImage) → map.get old.left page ≡ Some before → option_map (with_image old page) o ≡ Some new → All old → All new
 change_all old new page before None there is all = absurd (is_some_none new is)
 change_all old new page before (Some image) there is all = all_of (with_image old page image) new (sym (some_of (with_image old page image) new is)) (insert_all old page image before there all)
 

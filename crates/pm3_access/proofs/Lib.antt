@@ -33,3 +33,5 @@ pub mod WriteSteps
 pub mod Writing
 pub mod BodyWriting
 pub mod PartRoom
+pub mod RootSteps
+pub mod RootCalls

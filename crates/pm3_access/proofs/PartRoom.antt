@@ -50,7 +50,7 @@ room_admitted (Err e) old new image before after more admitted same images spare
 as_many : (old new : HeldImages) (written : PageMap) → map.len new.left ≡ map.len old.left → HaveRoomFor old.left written → HaveRoomFor new.left written
 as_many old new written count room = record { none = room.none; room = omega (arith, count, room.room) }
 
-change_room : (old new : HeldImages) (written : PageMap) (page : ℕ) (before : PageImage) (o : Option PageImage) → map.get old.left page ≡ Some before
+pub change_room : (old new : HeldImages) (written : PageMap) (page : ℕ) (before : PageImage) (o : Option PageImage) → map.get old.left page ≡ Some before
     → option_map (with_image old page) o ≡ Some new → HaveRoomFor old.left written → HaveRoomFor new.left written
 change_room old new written page before None there is room = absurd (is_some_none new is)
 change_room old new written page before (Some image) there is room =

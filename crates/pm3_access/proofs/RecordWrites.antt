@@ -69,7 +69,7 @@ module _ (word j v : ℕ) (low : j < 8) (small : v < 256) where
 
 module _ (book : Book) (words : List ℕ) (at len k v : ℕ) (low : k < len) where
   -- a tail with another item
-  refs_written : (tail : tails.Tail) → has_refs tail ≡ true → at + k < length words → tail_of book tail (set words (at + k) v) at len ≡ set (tail_of book tail words at len) k (name_by book v)
+  pub refs_written : (tail : tails.Tail) → has_refs tail ≡ true → at + k < length words → tail_of book tail (set words (at + k) v) at len ≡ set (tail_of book tail words at len) k (name_by book v)
   refs_written Empty is within = absurd (true≢false (sym is))
   refs_written Bytes is within = absurd (true≢false (sym is))
   refs_written Refs is within =

@@ -9,4 +9,5 @@ pub mod Sound
 pub mod Spots
 pub mod Codes
 pub mod BodyWrites
+pub mod Roots
 pub mod AccessLaws

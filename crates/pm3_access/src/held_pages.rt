@@ -10,6 +10,7 @@ ghost use Rattle.pm3_access.specs.Sound.{HasLowPage};
 ghost use Rattle.pm3_access.specs.Spots.{IsValueFor};
 ghost use Rattle.pm3_access.specs.Holding.{no_images, as_found, with_admitted, with_grown};
 ghost use Rattle.pm3_page.specs.PageMap.{IsAtHome};
+ghost use Rattle.pm3_access.specs.Roots.{images_rooted};
 
 use crate::objects::{place_object, write_place};
 use crate::places::{NoPlace, Place};
@@ -136,6 +137,18 @@ impl HeldPages {
             unreachable!()
         };
         write_place(image, catalog, at, place, value)
+    }
+
+    /// Writes an address, or 0 for nil, into a root slot of page 2.
+    pub(crate) fn set_root(&mut self, slot: u32, at: u64)
+        requires held { map.contains_key self.old.left 2 ≡ true }
+        requires slot { slot < 16 }
+        ensures { images_rooted self.old slot at ≡ Some self.new }
+    {
+        let Some(image) = self.left.get_mut(2) else {
+            unreachable!()
+        };
+        image.set_root(slot, at);
     }
 
     /// Places a new object on this page, or answers None exactly where it does not fit or the page is not held.

@@ -6,6 +6,7 @@ ghost use Rattle.pm3_access.specs.AccessLaws.{GrowthShowsNothing, GrowthKeepsFou
 ghost use Rattle.pm3_access.specs.Acts.{AreInPlace};
 ghost use Rattle.pm3_access.specs.BodyWrites.{WritesChangeOneWord};
 ghost use Rattle.pm3_access.specs.Holding.{nothing_held};
+ghost use Rattle.pm3_access.specs.Roots.{RootReadsAreSteps, RootWritesAreSteps, RootsStayInPlace};
 
 /// A read of a place of an object that is held is a read of that place of its record, whose answer is the value, or the name that
 /// the value stands for (`value`); an address that is read is in the book (`known`). Where the object has no such place, there is no
@@ -26,6 +27,14 @@ pub fn write_law()
     ensures one_word { WritesChangeOneWord }
     ensures fits { WritesFit }
     ensures no_place { WritesOfNoPlace }
+{}
+
+/// What is read in a root slot of page 2 is read in the graph, and is a name of it (`read`), and what is written there is written
+/// there (`write`). What is held stays in place (`place`).
+pub fn root_law()
+    ensures read { RootReadsAreSteps }
+    ensures write { RootWritesAreSteps }
+    ensures place { RootsStayInPlace }
 {}
 
 /// A new object is a new record of its type, name and length of tail, with 0 in all its places (`step`), under the book that has

@@ -1,0 +1,61 @@
+//! Root slots of page 2, read and written.
+ghost use Rattle.std.specs.Prelude.{◌<◌};
+
+use super::*;
+use pm3_page::{Addr, BASE, Image};
+use pm3_types::Catalog;
+use std::alloc::Global;
+use std::test::Fail;
+
+/// Page 2 as it stands in a file of a new store: all slots are nil.
+fn page_2(alloc: Global) -> Result<Image, Fail> {
+    let mut bytes = [0u8; 4096];
+    bytes[0] = 2;
+    bytes[4] = 18;
+    match Image::from_file(alloc, 2, 16384, &Catalog::new(alloc), &bytes) {
+        Ok(image) => Ok(image),
+        Err(_) => Err(Fail::from("the page is damaged")),
+    }
+}
+
+/// Holds page 2 alone.
+#[tactic(auto, using(crate::proofs::Homes::nothing_there))]
+fn roots(alloc: Global) -> Result<Held, Fail> {
+    let mut held = Held::new(alloc);
+    match held.admit(page_2(alloc)?) {
+        Ok(()) => Ok(held),
+        Err(_) => Err(Fail::from("no memory")),
+    }
+}
+
+fn write_root(held: &mut Held, slot: u32, at: Addr) -> Result<(), Fail>
+    requires { slot < 16 }
+{
+    if !held.has(2) {
+        return Err(Fail::from("page 2 is not held"));
+    }
+    held.set_root(slot, at);
+    Ok(())
+}
+
+fn read_root(held: &Held, slot: u32) -> Result<u64, Fail>
+    requires { slot < 16 }
+{
+    if !held.has(2) {
+        return Err(Fail::from("page 2 is not held"));
+    }
+    Ok(held.root(slot))
+}
+
+/// The first word behind the head of page 3.
+const OBJECT: Addr = BASE + 4096 * 3 + 16;
+
+#[test]
+fn a_root_is_read_as_it_was_written(rt: HostRuntime) -> Result<(), Fail> {
+    let mut held = roots(rt.alloc())?;
+    assert_eq!(rt; read_root(&held, 3)?, 0);
+    write_root(&mut held, 3, OBJECT)?;
+    assert_eq!(rt; read_root(&held, 3)?, OBJECT);
+    assert_eq!(rt; read_root(&held, 4)?, 0);
+    Ok(())
+}
