@@ -8,7 +8,7 @@ use Rattle.std.specs.FinMap as map
 use Rattle.std.specs.FinMap.{nat_cmp-IsAntisymmetric, same_map}
 use mathlib.Core.Bool.{true≢false}
 use Rattle.pm3_types.specs.Fields.{Fields}
-use Rattle.pm3_types.specs.Layout.{PageImage, is_address, page_in, word_in, size_by, head_of}
+use Rattle.pm3_types.specs.Layout.{PageImage, is_address, page_in, word_in, size_by, head_of, placed_on}
 use Rattle.pm3_types.specs.PageForm.{is_memory_reference, IsSound}
 use Rattle.pm3_page.specs.PageMap.{Images}
 use Rattle.pm3_access.specs.declared.places.Place.{Place}
@@ -18,7 +18,7 @@ use Rattle.pm3_access.specs.declared.spots.Spot.TheVariants.{Word, ByteOf}
 use Rattle.pm3_access.specs.Spots.{spot_if, spot_in, with_value_in, with_value_at_place, spot_at, IsValueFor}
 use Rattle.pm3_access.specs.Access.{begins_in, written_by, images_written}
 use Rattle.pm3_access.specs.Holding.{HeldImages, with_image}
-use Rattle.pm3_access.specs.Making.{has_room_for, next_address, images_made, IsPlacedOn, IsMadeAmong}
+use Rattle.pm3_access.specs.Making.{has_room_for, next_address, images_made, IsMadeOn}
 use Rattle.pm3_access.specs.declared.places.NoPlace.{NoPlace}
 use Rattle.pm3_access.proofs.Homes.{get_same, get_other, some_of, is_some_none}
 use Rattle.pm3_access.proofs.Within.{page_low, address_held}
@@ -49,13 +49,16 @@ held_low catalog base None a sound e = absurd (true≢false (sym e))
 held_low catalog base (Some image) a sound e = page_low catalog base (is_memory_reference base 16384) image a (sound image refl) e
 
 -- a new object leaves the number of the page
-pub placed_page : (base : ℕ) (catalog : List Fields) (old : PageImage) (ty tail name : ℕ) (result : Option ℕ) (new : PageImage) → IsPlacedOn base catalog old ty tail name result new → new.page ≡ old.page
+pub placed_page : (base : ℕ) (catalog : List Fields) (old : PageImage) (ty tail name : ℕ) (result : Option ℕ) (new : PageImage)
+    → IsMadeOn base (Some old) (size_by (slice_get catalog ty) tail) old (placed_on old (size_by (slice_get catalog ty) tail) (head_of ty tail) name) result new → new.page ≡ old.page
 placed_page base catalog old ty tail name None new h = ap (λ (i : PageImage). i.page) h.1
 placed_page base catalog old ty tail name (Some at) new h = ap (λ (i : PageImage). i.page) h.2
 
 -- a new object in one of the images
 pub made_among : (base : ℕ) (catalog : List Fields) (left found : Images) (page ty tail name : ℕ) (result : Option ℕ) (image new : PageImage) → map.get left page ≡ Some image
-    → IsPlacedOn base catalog image ty tail name result new → IsMadeAmong base catalog (record { left = left; found = found }) page ty tail name result (record { left = map.insert left page new; found = found })
+    → IsMadeOn base (Some image) (size_by (slice_get catalog ty) tail) image (placed_on image (size_by (slice_get catalog ty) tail) (head_of ty tail) name) result new
+    → IsMadeOn base (map.get left page) (size_by (slice_get catalog ty) tail) (record { left = left; found = found })
+    (images_made (record { left = left; found = found }) page (map.get left page) (size_by (slice_get catalog ty) tail) (head_of ty tail) name) result (record { left = map.insert left page new; found = found })
 made_among base catalog left found page ty tail name None image new is h =
     let same : map.insert left page new ≡ left = ap (map.insert left page) h.1 ∙ insert_there left page image is in
     (ap (λ o. has_room_for o (size_by (slice_get catalog ty) tail)) is ∙ h.0, λ i. record { left = same i; found = found })

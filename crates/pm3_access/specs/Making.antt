@@ -19,24 +19,16 @@ abbrev pub next_address : ℕ → Option PageImage → ℕ
 next_address base None = 0
 next_address base (Some image) = address base image.page (end_of image.sheet)
 
--- a new object of this type, tail and name is on the page at the address; at None it did not fit and the page is as it was
-abbrev pub IsPlacedOn : ℕ → List Fields → PageImage → ℕ → ℕ → ℕ → Option ℕ → PageImage → Type 0
-IsPlacedOn base catalog old ty tail name None new = (has_space_for old (size_by (slice_get catalog ty) tail) ≡ false) × (new ≡ old)
-IsPlacedOn base catalog old ty tail name (Some at) new =
-    (has_space_for old (size_by (slice_get catalog ty) tail) ≡ true) × (at ≡ address base old.page (end_of old.sheet))
-    × (new ≡ placed_on old (size_by (slice_get catalog ty) tail) (head_of ty tail) name)
+-- where this image is, an object of so many words was made behind its last one, and all is `made`; at None it does not fit there, or there
+-- is no image, and all is as it was
+abbrev pub IsMadeOn : {S : Type 0} → ℕ → Option PageImage → ℕ → S → S → Option ℕ → S → Type 0
+IsMadeOn base image size old made None new = (has_room_for image size ≡ false) × (new ≡ old)
+IsMadeOn base image size old made (Some at) new = (has_room_for image size ≡ true) × (at ≡ next_address base image) × (new ≡ made)
 
 -- the images of which this one has a new object
 abbrev pub images_made : HeldImages → ℕ → Option PageImage → ℕ → ℕ → ℕ → HeldImages
 images_made h page None size head name = h
 images_made h page (Some image) size head name = with_image h page (placed_on image size head name)
-
--- the same at one of several images
-abbrev pub IsMadeAmong : ℕ → List Fields → HeldImages → ℕ → ℕ → ℕ → ℕ → Option ℕ → HeldImages → Type 0
-IsMadeAmong base catalog old page ty tail name None new = (has_room_for (map.get old.left page) (size_by (slice_get catalog ty) tail) ≡ false) × (new ≡ old)
-IsMadeAmong base catalog old page ty tail name (Some at) new =
-    (has_room_for (map.get old.left page) (size_by (slice_get catalog ty) tail) ≡ true) × (at ≡ next_address base (map.get old.left page))
-    × (new ≡ images_made old page (map.get old.left page) (size_by (slice_get catalog ty) tail) (head_of ty tail) name)
 
 -- the image of the current page of a space
 abbrev pub current_in : HeldSpaceState → Option PageImage
@@ -52,15 +44,8 @@ space_made s None image size head name = s
 space_made s (Some page) None size head name = s
 space_made s (Some page) (Some image) size head name = space_with s page (placed_on image size head name)
 
-abbrev pub IsMadeIn : ℕ → List Fields → HeldSpaceState → ℕ → ℕ → ℕ → Option ℕ → HeldSpaceState → Type 0
-IsMadeIn base catalog old ty tail name None new = (has_room_for (current_in old) (size_by (slice_get catalog ty) tail) ≡ false) × (new ≡ old)
-IsMadeIn base catalog old ty tail name (Some at) new =
-    (has_room_for (current_in old) (size_by (slice_get catalog ty) tail) ≡ true) × (at ≡ next_address base (current_in old))
-    × (new ≡ space_made old old.current (current_in old) (size_by (slice_get catalog ty) tail) (head_of ty tail) name)
-
 -- a new object is on the current page of the held space, behind the last one; at None it does not fit there, or there is no current page
 abbrev pub IsMade : ℕ → List Fields → Holding → ℕ → ℕ → ℕ → Option ℕ → Holding → Type 0
-IsMade base catalog old ty tail name None new = (has_room_for (current_image old.space) (size_by (slice_get catalog ty) tail) ≡ false) × (new ≡ old)
-IsMade base catalog old ty tail name (Some at) new =
-    (has_room_for (current_image old.space) (size_by (slice_get catalog ty) tail) ≡ true) × (at ≡ next_address base (current_image old.space))
-    × (new ≡ by_space (λ s. space_made s s.current (current_in s) (size_by (slice_get catalog ty) tail) (head_of ty tail) name) old)
+IsMade base catalog old ty tail name result new =
+    let size : ℕ = size_by (slice_get catalog ty) tail in
+    IsMadeOn base (current_image old.space) size old (by_space (λ s. space_made s s.current (current_in s) size (head_of ty tail) name) old) result new

@@ -1,11 +1,11 @@
 //! Pages that are held: one place where the images are kept as they were found.
-ghost use Rattle.std.specs.Prelude.{◌≡◌, ◌+◌, ◌^◌, ◌<◌, ◌≤◌, true, false, None, Some, length, slice_get, MatchResult, OnOk, OnErr, IfOk, IfErr};
+ghost use Rattle.std.specs.Prelude.{ℕ, Option, ◌≡◌, ◌+◌, ◌^◌, ◌<◌, ◌≤◌, true, false, None, Some, length, slice_get, MatchResult, OnOk, OnErr, IfOk, IfErr};
 ghost use Rattle.std.specs.Option.{option_copied};
 ghost use Rattle.std.specs.FinMap as map;
-ghost use Rattle.pm3_types.specs.Layout.{PageImage, has_tail, size_by};
+ghost use Rattle.pm3_types.specs.Layout.{PageImage, has_tail, head_of, size_by};
 ghost use Rattle.pm3_types.specs.PageForm.{IsSound};
 ghost use Rattle.pm3_access.specs.Access.{begins_in, images_written};
-ghost use Rattle.pm3_access.specs.Making.{IsMadeAmong};
+ghost use Rattle.pm3_access.specs.Making.{IsMadeOn, images_made};
 ghost use Rattle.pm3_access.specs.Sound.{HasLowPage};
 ghost use Rattle.pm3_access.specs.Spots.{IsValueFor};
 ghost use Rattle.pm3_access.specs.Holding.{no_images, as_found, with_admitted, with_grown};
@@ -164,7 +164,9 @@ impl HeldPages {
         requires named { (0 < name) × (name < 2 ^ 62) }
         requires empty { has_tail (slice_get catalog.now ty) ≡ false → tail ≡ 0 }
         requires small { size_by (slice_get catalog.now ty) tail ≤ 510 }
-        ensures made { IsMadeAmong BASE catalog.now self.old page ty tail name result self.new }
+        ensures made { let size : ℕ = size_by (slice_get catalog.now ty) tail in
+            let image : Option PageImage = map.get self.old.left page in
+            IsMadeOn BASE image size self.old (images_made self.old page image size (head_of ty tail) name) result self.new }
         ensures low { HasLowPage (map.get self.old.left page) }
     {
         let Some(image) = self.left.get_mut(page) else {

@@ -1,16 +1,16 @@
 //! A space that is held.
-ghost use Rattle.std.specs.Prelude.{◌≡◌, ◌+◌, ◌^◌, ◌<◌, ◌≤◌, true, false, Some, length, slice_get, MatchResult, ◌-◌, max, None, OnOk, OnErr, IfOk, IfErr, MatchOption};
+ghost use Rattle.std.specs.Prelude.{ℕ, ◌≡◌, ◌+◌, ◌^◌, ◌<◌, ◌≤◌, true, false, Some, length, slice_get, MatchResult, ◌-◌, max, None, OnOk, OnErr, IfOk, IfErr, MatchOption};
 ghost use Rattle.std.specs.Option.{option_copied};
 ghost use Rattle.std.specs.FinMap as map;
 ghost use Rattle.std.specs.FinSet as set;
 ghost use Rattle.pm3_page.specs.Next.{IsNext};
-ghost use Rattle.pm3_types.specs.Layout.{PageImage, has_tail, size_by};
+ghost use Rattle.pm3_types.specs.Layout.{PageImage, has_tail, head_of, size_by};
 ghost use Rattle.pm3_types.specs.PageForm.{IsSound};
 ghost use Rattle.pm3_access.specs.Access.{begins_in, space_written};
-ghost use Rattle.pm3_access.specs.Making.{IsMadeIn, current_in};
+ghost use Rattle.pm3_access.specs.Making.{IsMadeOn, space_made, current_in};
 ghost use Rattle.pm3_access.specs.Sound.{HasLowPage};
 ghost use Rattle.pm3_access.specs.Spots.{IsValueFor};
-ghost use Rattle.pm3_access.specs.Holding.{held_space, grown, with_free, undone_space};
+ghost use Rattle.pm3_access.specs.Holding.{HeldSpaceState, held_space, grown, with_free, undone_space};
 ghost use Rattle.pm3_page.specs.PageMap.{IsAtHome};
 
 use crate::free_pages::FreePages;
@@ -150,7 +150,9 @@ impl HeldSpace {
         requires named { (0 < name) × (name < 2 ^ 62) }
         requires empty { has_tail (slice_get catalog.now ty) ≡ false → tail ≡ 0 }
         requires small { size_by (slice_get catalog.now ty) tail ≤ 510 }
-        ensures made { IsMadeIn BASE catalog.now self.old ty tail name result self.new }
+        ensures made { let size : ℕ = size_by (slice_get catalog.now ty) tail in
+            let made : HeldSpaceState = space_made self.old self.old.current (current_in self.old) size (head_of ty tail) name in
+            IsMadeOn BASE (current_in self.old) size self.old made result self.new }
         ensures low { HasLowPage (current_in self.old) }
     {
         let Some(page) = self.current else {

@@ -1,9 +1,9 @@
 //! What stands at the places of objects, and new objects, in one image.
-ghost use Rattle.std.specs.Prelude.{◌≡◌, ◌≢◌, ◌+◌, ◌^◌, ◌<◌, ◌≤◌, ◌==◌, ◌&&◌, not, nat_le, true, false, None, Some, IfSome, MatchResult, MatchOption, length, slice_get};
+ghost use Rattle.std.specs.Prelude.{ℕ, ◌≡◌, ◌≢◌, ◌+◌, ◌^◌, ◌<◌, ◌≤◌, ◌==◌, ◌&&◌, not, nat_le, true, false, None, Some, IfSome, MatchResult, MatchOption, length, slice_get};
 ghost use Rattle.pm3_types.specs.Layout.{begins_at, word_in, address, end_of, size_by, has_tail, head_of, placed_on, tail_words};
 ghost use Rattle.pm3_types.specs.PageForm.{IsSound};
 ghost use Rattle.pm3_access.specs.Spots.{spot_at, word_of, IsByteOfWord, value_at_place, with_value_at_place, IsValueFor};
-ghost use Rattle.pm3_access.specs.Making.{IsPlacedOn};
+ghost use Rattle.pm3_access.specs.Making.{IsMadeOn};
 
 use crate::places::{NoPlace, Place};
 use crate::spots::{Spot, byte, find, set_byte};
@@ -82,7 +82,7 @@ pub(crate) fn place_object(
     requires named { (0 < name) × (name < 2 ^ 62) }
     requires empty { has_tail (slice_get catalog.now ty) ≡ false → tail ≡ 0 }
     requires small { size_by (slice_get catalog.now ty) tail ≤ 510 }
-    ensures { IsPlacedOn BASE catalog.now image.old ty tail name result image.new }
+    ensures { let size : ℕ = size_by (slice_get catalog.now ty) tail in IsMadeOn BASE (Some image.old) size image.old (placed_on image.old size (head_of ty tail) name) result image.new }
 {
     let Some(map) = catalog.get(ty) else {
         unreachable!()

@@ -1,4 +1,6 @@
 //! The places of an object.
+use thiserror::Error;
+
 /// A place of an object.
 #[derive(Clone, Copy, Debug, PartialEq, Eq)]
 pub enum Place {
@@ -11,5 +13,6 @@ pub enum Place {
 }
 
 /// The object has no such place: its type has no such field or tail, or its tail ends before.
-#[derive(Clone, Copy, Debug, PartialEq, Eq)]
+#[derive(Clone, Copy, Debug, PartialEq, Eq, Error)]
+#[error("there is no such place")]
 pub struct NoPlace;
