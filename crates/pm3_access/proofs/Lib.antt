@@ -34,4 +34,5 @@ pub mod Writing
 pub mod BodyWriting
 pub mod PartRoom
 pub mod RootSteps
+pub mod BookSteps
 pub mod RootCalls

@@ -1,27 +1,29 @@
 -- A new object is a new record of the part that is left, under a book with one more name.
-use Rattle.std.proofs.Common.{◌≡◌, ◌≢◌, ◌⊎◌, ◌<◌, ◌+◌, ◌==◌, ◌∙◌, inl, inr, ℕ, zero, suc, Bool, true, not, nat_le, List, [], ◌∷◌, length, Option, Some, None, Ok, is_some, refl, sym, ap, subst, arith}
-use Rattle.std.proofs.lemmas.Bool.{and_parts, eqb-false, leb-true, or_from, ne_eqb, not-true}
+use Rattle.std.proofs.Common.{◌≡◌, ◌≢◌, ◌⊎◌, ◌<◌, ◌≤◌, ◌+◌, ◌==◌, ◌∙◌, inl, inr, ℕ, zero, suc, Bool, true, not, nat_le, List, [], ◌∷◌, length, Option, Some, None, Ok, is_some, refl, sym, ap, subst, arith}
+use Rattle.std.proofs.lemmas.Bool.{and_parts, eq-eqb, eqb-false, leb-true, or_from, ne_eqb, not-true}
 use Rattle.std.specs.Prelude.{slice_get}
 use Rattle.std.specs.Option.{option_or, option_map, option_and_then}
 use Rattle.std.specs.FinMap as maps
 use Rattle.std.specs.FinMap.{get, insert}
 use mathlib.Core.Bool.{true≢false}
 use Rattle.pm3_types.specs.Fields.{Fields}
-use Rattle.pm3_types.specs.Layout.{Sheet, PageImage, IsLaid, blank_sheet, address, end_of, size_by, head_of, has_tail, placed, placed_on}
-use Rattle.pm3_types.specs.PageForm.{HasObjects}
-use Rattle.pm3_access.specs.Access.{ImageHasForm}
+use Rattle.pm3_types.specs.Layout.{Sheet, PageImage, IsLaid, blank_sheet, is_start, is_address, page_in, word_in, type_in, address, end_of, size_by, head_of, has_tail, placed, placed_on}
+use Rattle.pm3_types.specs.PageForm.{HasObjects, map_at}
+use Rattle.pm3_access.specs.Access.{ImageHasForm, begins_in, is_object_held}
 use Rattle.pm3_types.specs.Shown.{Book, Images, FitsImages, shown}
 use Rattle.pm3_graph.specs.declared.operations.Op.TheVariants as ops
 use Rattle.pm3_graph.specs.Operation.{new_of, unless_taken, IsStep}
 use Rattle.pm3_page.specs.PageSheets.{sheet_in}
-use Rattle.pm3_access.specs.Acts.{left_images, left_part, AreInPlace, IsNewName, MayBeMade}
+use Rattle.pm3_access.specs.Acts.{left_images, left_part, map_by, map_held, AreInPlace, IsNewName, MayBeMade}
 use Rattle.pm3_access.specs.Sound.{HasLowPage}
 use Rattle.pm3_access.specs.Holding.{Holding, HeldSpaceState, image_in, space_now, space_with}
 use Rattle.pm3_access.specs.Making.{has_space_for, has_room_for, next_address, current_in, current_image, space_made, IsMade}
 use Rattle.pm3_access.proofs.Homes.{is_some_none}
-use Rattle.pm3_access.proofs.HeldSheets.{get-left_images, changed, changed_by, left_changed}
+use Rattle.pm3_access.proofs.HeldSheets.{get-left_images, changed, changed_by, changed_here, left_changed}
+use Rattle.pm3_access.proofs.SoundingPages.{both}
+use Rattle.pm3_types.proofs.Addressing.{page_in-address, word_in-address, is_address-address}
 use Rattle.pm3_access.proofs.InPlace.{changed_in_place}
-use Rattle.pm3_access.proofs.NewObjects.{blank_laid}
+use Rattle.pm3_access.proofs.NewObjects.{blank_laid, start_here, at_head, type_of_head}
 use Rattle.pm3_access.proofs.PlacedObjects.{IsNewObject, shown_more, not_in_book, not_shown, fits_more}
 
 -- the operation on the part that images show
@@ -169,6 +171,37 @@ module _ (catalog : List Fields) (base : ℕ) (h new : Holding) (ty tail n at : 
         subst (λ (a : ℕ). FitsImages catalog base (insert book a n) (left_images new)) (sym at_is)
         (subst (FitsImages catalog base (insert book (address base image.page (end_of image.sheet)) n)) (ap after_of (sym size_is) ∙ sym left_is)
         (fits_more catalog base book (left_images h) image.page image.sheet map.0 ty tail n is_new))
+
+    word_low : end_of image.sheet < 512
+    word_low = omega (arith, is_new.room)
+
+    word_is : word_in base at ≡ end_of image.sheet
+    word_is = ap (word_in base) at_is ∙ word_in-address base image.page (end_of image.sheet) word_low
+
+    page_is : page_in base at ≡ image.page
+    page_is = ap (page_in base) at_is ∙ page_in-address base image.page (end_of image.sheet) word_low
+
+    image_now : image_in new (page_in base at) ≡ Some after
+    image_now = ap (image_in new) (page_is ∙ home) ∙ ap (λ (g : Holding). image_in g page) new_is ∙ changed_here h page image after held_is
+
+    two : 2 ≤ size
+    two = omega (arith, size_is)
+
+    fits : end_of image.sheet + size ≤ 512
+    fits = omega (arith, is_new.room, size_is)
+
+    -- an object begins at the address, of the type that was asked for
+    pub made_object : is_object_held base new at ≡ true
+    made_object = ap (λ (o : Option PageImage). begins_in base o at) image_now ∙ both _ _
+        (both _ _ (ap (is_address base) at_is ∙ is_address-address base image.page (end_of image.sheet)) (eq-eqb (page_in base at) image.page page_is))
+        (ap (is_start after.sheet) word_is ∙ start_here catalog image.page image.sheet size (head_of ty tail) n is_new.laid two fits)
+
+    pub made_map : map_held catalog base new at ≡ slice_get catalog ty
+    made_map =
+        ap (λ (o : Option PageImage). map_by catalog o (word_in base at)) image_now
+        ∙ ap (map_at catalog after.sheet) word_is
+        ∙ ap (λ (w : ℕ). slice_get catalog (type_in w)) (at_head catalog image.page image.sheet size (head_of ty tail) n is_new.laid two fits)
+        ∙ ap (slice_get catalog) (type_of_head ty tail may.type_low)
 
     pub made_new : get book at ≡ None
     made_new = ap (get book) at_is ∙ not_in_book catalog base book (left_images h) image.page image.sheet map.0 ty tail n is_new

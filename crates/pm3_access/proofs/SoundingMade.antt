@@ -12,11 +12,9 @@ use Rattle.pm3_access.specs.Access.{HaveForm, ImageHasForm}
 use Rattle.pm3_access.specs.Holding.{Holding, HeldImages, HeldSpaceState}
 use Rattle.pm3_access.specs.Making.{has_space_for, has_room_for, current_in, current_image, space_made, IsMade}
 use Rattle.pm3_access.specs.Sound.{HasLowPage}
+use Rattle.pm3_access.proofs.SoundingPages.{both}
 use Rattle.pm3_access.proofs.SoundingPlacings.{sound_placed}
 use Rattle.pm3_access.proofs.SoundingHeld.{sound_in_space}
-
-both : (a b : Bool) → a ≡ true → b ≡ true → (a && b) ≡ true
-both a b one other = ap (λ (x : Bool). x && b) one ∙ other
 
 type_back : (ty tail : ℕ) → ty < 2 ^ 16 → type_in (head_of ty tail) ≡ ty
 unfolding type_in head_of

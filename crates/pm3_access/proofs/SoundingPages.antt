@@ -7,7 +7,8 @@ use Rattle.pm3_types.specs.PageForm.{HasForm, HasObjects, IsSound, is_memory_ref
 use Rattle.pm3_access.specs.Access.{AreSound}
 use Rattle.pm3_access.specs.Holding.{Holding}
 
-both : (a b : Bool) → a ≡ true → b ≡ true → (a && b) ≡ true
+-- two tests pass
+pub both : (a b : Bool) → a ≡ true → b ≡ true → (a && b) ≡ true
 both a b one other = ap (λ (x : Bool). x && b) one ∙ other
 
 -- a reference of a store is one of a larger store

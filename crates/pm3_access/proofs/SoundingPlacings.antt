@@ -10,6 +10,7 @@ use Rattle.pm3_types.specs.Layout.{Sheet, PageImage, IsLaid, blank_sheet, is_sta
 use Rattle.pm3_types.specs.PageForm.{HasObjects, IsReferenceIn, IsTailBytes, is_head_of, is_name, is_padded, is_page_head, is_memory_reference, map_at, tail_at}
 use Rattle.pm3_types.proofs.Placings.{placed_laid}
 use Rattle.pm3_access.specs.Access.{ImageHasForm}
+use Rattle.pm3_access.proofs.SoundingPages.{both}
 use Rattle.pm3_access.proofs.Sounding.{reference_within, bytes_within}
 use Rattle.pm3_access.proofs.Within.{blank_starts}
 
@@ -22,9 +23,6 @@ pub record IsFilled (catalog : List Fields) (refers : ℕ → Bool) (sheet : She
   pub references : (s k : ℕ) → is_start sheet s ≡ true → IsReferenceIn (map_at catalog sheet s) (tail_at sheet s) k → refers (get_or sheet.words (s + 2 + k) 0) ≡ true
   pub padding : (s j k : ℕ) → is_start sheet s ≡ true → IsTailBytes (map_at catalog sheet s) (tail_at sheet s) j k
       → is_padded (tail_at sheet s - 8 * j) (get_or sheet.words (s + 2 + k) 0) ≡ true
-
-both : (a b : Bool) → a ≡ true → b ≡ true → (a && b) ≡ true
-both a b one other = ap (λ (x : Bool). x && b) one ∙ other
 
 padded_zero : (left : ℕ) → is_padded left 0 ≡ true
 unfolding is_padded

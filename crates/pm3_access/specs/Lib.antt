@@ -10,4 +10,5 @@ pub mod Spots
 pub mod Codes
 pub mod BodyWrites
 pub mod Roots
+pub mod Fitting
 pub mod AccessLaws

@@ -6,6 +6,7 @@ ghost use Rattle.pm3_access.specs.AccessLaws.{GrowthShowsNothing, GrowthKeepsFou
 ghost use Rattle.pm3_access.specs.Acts.{AreInPlace};
 ghost use Rattle.pm3_access.specs.BodyWrites.{WritesChangeOneWord};
 ghost use Rattle.pm3_access.specs.Holding.{nothing_held};
+ghost use Rattle.pm3_access.specs.Fitting.{NothingIsNamed, MadeIsHeld, OthersStayNew};
 ghost use Rattle.pm3_access.specs.Roots.{RootReadsAreSteps, RootWritesAreSteps, RootsStayInPlace};
 
 /// A read of a place of an object that is held is a read of that place of its record, whose answer is the value, or the name that
@@ -43,6 +44,15 @@ pub fn make_law()
     ensures step { MakesAreSteps }
     ensures fits { MakesFit }
     ensures address { MakesAtNewAddress }
+{}
+
+/// Books that fit what is held are had from nothing on: the empty book fits nothing held, and has no name (`nothing`). What was made
+/// is held as its name, under the book that has it as well (`made`), and every other new name is still new (`others`). So the
+/// premises of the other laws are met, and of the clauses of a `Held`.
+pub fn book_law()
+    ensures nothing { NothingIsNamed }
+    ensures made { MadeIsHeld }
+    ensures others { OthersStayNew }
 {}
 
 /// An image whose page is not held adds to what is left, and alike to what was found, what it shows alone (`left`, `found`), and so

@@ -51,7 +51,7 @@ mod tests;
 
 pub use held::Held;
 pub use laws::{
-    admit_law, grow_law, make_law, place_law, read_law, root_law, sound_law, write_law,
+    admit_law, book_law, grow_law, make_law, place_law, read_law, root_law, sound_law, write_law,
 };
 pub use parted::Parted;
 pub use places::{NoPlace, Place};
