@@ -15,7 +15,9 @@ abbrev pub numbers_code : Coded Numbers
 numbers_code = set.code coded_ℕ
 
 abbrev pub free_list_code : Coded FreeList
-free_list_code = code_by (Numbers × ℕ) (coded× (set.code coded_ℕ) coded_ℕ) (λ f. (f.pages, f.room)) (λ p. record { pages = p.0; room = p.1 }) (λ _. refl)
+free_list_code =
+    code_by (Numbers × (ℕ × ℕ)) (coded× numbers_code (coded× coded_ℕ coded_ℕ)) (λ f. (f.pages, (f.room, f.kept)))
+    (λ p. record { pages = p.0; room = p.1.0; kept = p.1.1 }) (λ _. refl)
 
 abbrev pub space_code : Coded SpaceState
 space_code =

@@ -7,10 +7,11 @@ use Rattle.std.specs.FinSet as set
 abbrev pub Numbers : Type 0
 Numbers = set.FinSet nat_cmp
 
--- the pages that are free, and how many more there is room for
+-- the pages that are free, how many more there is room for, and how many beside those, which were drawn
 pub record FreeList : Type 0 where
   pub pages : Numbers
   pub room : ℕ
+  pub kept : ℕ
 
 -- the set with the pages of a list
 abbrev pub with_pages : Numbers → List ℕ → Numbers

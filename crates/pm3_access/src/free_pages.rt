@@ -9,11 +9,14 @@ use pm3_types::Memory;
 use std::alloc::Global;
 use std::marker::Model;
 
-/// Pages that are free, and room for further ones.
+/// Pages that are free, and room for further ones and for those drawn.
 #[derive(Debug, Drop)]
 pub(crate) struct FreePages {
     pages: Vec<PageNo>,
+    /// Room for further pages.
     room: usize,
+    /// Room beside that, by which the pages drawn can be set free again without memory.
+    kept: usize,
 }
 
 impl Model for FreePages {
@@ -26,43 +29,71 @@ impl Model for FreePages {
 
     ghost coded = { free_list_code };
 
-    ghost view = { λ f. record { pages = set.from_list f.pages.items; room = f.room } };
+    ghost view = { λ f. record { pages = set.from_list f.pages.items; room = f.room; kept = f.kept } };
 
-    ghost invariant = { λ f. length f.pages.items + f.room ≤ vec_capacity f.pages };
+    ghost invariant = { λ f. length f.pages.items + f.room + f.kept ≤ vec_capacity f.pages };
 }
 
 impl FreePages {
     /// No page, and no room.
     pub(crate) fn new(alloc: Global) -> FreePages
-        ensures { result ≡ record { pages = set.empty; room = 0 } }
+        ensures { result ≡ record { pages = set.empty; room = 0; kept = 0 } }
     {
         FreePages {
             pages: Vec::new(alloc),
             room: 0,
+            kept: 0,
         }
-    }
-
-    /// How many further pages there is room for.
-    pub(crate) fn room(&self) -> usize
-        ensures { result ≡ self.now.room }
-    {
-        self.room
     }
 
     /// Makes room for at least so many further pages.
-    pub(crate) fn reserve(&mut self, more: usize) -> Result<(), Memory>
+    pub(crate) fn reserve(&mut self, more: u32) -> Result<(), Memory>
         ensures pages { self.new.pages ≡ self.old.pages }
         ensures room { OnOk result (self.new.room ≡ max self.old.room more) }
+        ensures kept { self.new.kept ≡ self.old.kept }
         ensures refused { OnErr result (self.new ≡ self.old) }
     {
+        let more = more as usize;
         if more <= self.room {
             return Ok(());
         }
-        let Ok(()) = self.pages.reserve(more) else {
+        let Some(wanted) = more.checked_add(self.kept) else {
+            return Err(Memory);
+        };
+        let Ok(()) = self.pages.reserve(wanted) else {
             return Err(Memory);
         };
         self.room = more;
         Ok(())
+    }
+
+    /// Keeps room for at least so many pages, beside that for further ones.
+    pub(crate) fn keep(&mut self, drawn: usize) -> Result<(), Memory>
+        ensures pages { self.new.pages ≡ self.old.pages }
+        ensures room { self.new.room ≡ self.old.room }
+        ensures kept { self.old.kept ≤ self.new.kept }
+        ensures enough { OnOk result (drawn ≤ self.new.kept) }
+    {
+        if drawn <= self.kept {
+            return Ok(());
+        }
+        let Some(wanted) = self.room.checked_add(drawn) else {
+            return Err(Memory);
+        };
+        let Ok(()) = self.pages.reserve(wanted) else {
+            return Err(Memory);
+        };
+        self.kept = drawn;
+        Ok(())
+    }
+
+    /// Makes the room that was kept room for further pages.
+    pub(crate) fn release(&mut self)
+        ensures pages { self.new.pages ≡ self.old.pages }
+        ensures room { self.new.room ≡ self.old.room + self.old.kept }
+    {
+        self.room += self.kept;
+        self.kept = 0;
     }
 
     /// Adds a page, in the room that was made.
@@ -70,6 +101,7 @@ impl FreePages {
         requires { 0 < self.old.room }
         ensures pages { self.new.pages ≡ set.insert self.old.pages page }
         ensures room { self.new.room + 1 ≡ self.old.room }
+        ensures kept { self.new.kept ≡ self.old.kept }
     {
         let Ok(()) = self.pages.push(page) else {
             unreachable!()
@@ -104,7 +136,7 @@ impl FreePages {
     /// Takes the least page out, or answers None exactly where there is none.
     pub(crate) fn take_least(&mut self) -> Option<PageNo>
         ensures least { IsNext (set.contains self.old.pages) 0 result }
-        ensures taken { MatchOption result (self.new ≡ self.old) (λ page. (self.new.pages ≡ set.remove self.old.pages page) × (self.new.room ≡ self.old.room + 1)) }
+        ensures taken { MatchOption result (self.new ≡ self.old) (λ page. (self.new.pages ≡ set.remove self.old.pages page) × (self.new.room ≡ self.old.room + 1) × (self.new.kept ≡ self.old.kept)) }
         ensures fits { IsSome result → self.new.room < 2 ^ 64 }
     {
         let Some(least) = least_of(&self.pages) else {

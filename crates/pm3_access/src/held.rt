@@ -151,7 +151,7 @@ impl Held {
         let Some(space) = &mut self.space else {
             unreachable!()
         };
-        space.reserve_free(more)
+        space.free.reserve(more)
     }
 
     /// Adds a page to the free ones, in the room that was made.
@@ -163,7 +163,7 @@ impl Held {
         let Some(space) = &mut self.space else {
             unreachable!()
         };
-        space.add_free(page);
+        space.free.add(page);
     }
 
     /// Takes the least free page out, or answers None exactly where there is none.
@@ -176,7 +176,7 @@ impl Held {
         let Some(space) = &mut self.space else {
             unreachable!()
         };
-        space.least_free()
+        space.free.take_least()
     }
 
     /// The value at a place of the object at `at`, or NoPlace exactly where the object has no such place.

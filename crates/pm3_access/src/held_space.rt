@@ -28,8 +28,6 @@ pub(crate) struct HeldSpace {
     pub(crate) number: u32,
     pub(crate) pages: HeldPages,
     pub(crate) free: FreePages,
-    /// Room among the free pages beside that for the pages drawn.
-    pub(crate) room: usize,
     /// The current page when the space was taken.
     pub(crate) first: Option<PageNo>,
     pub(crate) current: Option<PageNo>,
@@ -45,9 +43,9 @@ impl Model for HeldSpace {
 
     ghost coded = { held_space_code };
 
-    ghost view = { λ s. record { number = s.number; images = s.pages; free = s.free.pages; room = s.room; first = s.first; current = s.current; drawn = s.drawn.items } };
+    ghost view = { λ s. record { number = s.number; images = s.pages; free = s.free.pages; room = s.free.room; first = s.first; current = s.current; drawn = s.drawn.items } };
 
-    ghost invariant = { λ s. s.room + length s.drawn.items ≤ s.free.room };
+    ghost invariant = { λ s. length s.drawn.items ≤ s.free.kept };
 }
 
 impl HeldSpace {
@@ -67,7 +65,6 @@ impl HeldSpace {
             Ok(pages) => Ok(HeldSpace {
                 number,
                 pages,
-                room: free.room(),
                 free,
                 first: current,
                 current,
@@ -99,10 +96,7 @@ impl HeldSpace {
         ensures same { OnErr result (self.new ≡ self.old) }
         ensures refused { IfErr result (λ refusal. refusal.1 ≡ image) }
     {
-        let Some(wanted) = self.room.checked_add(self.drawn.len() + 1) else {
-            return Err((Memory, image));
-        };
-        let Ok(()) = self.free.reserve(wanted) else {
+        let Ok(()) = self.free.keep(self.drawn.len() + 1) else {
             return Err((Memory, image));
         };
         let Ok(()) = self.drawn.reserve(1) else {
@@ -161,43 +155,6 @@ impl HeldSpace {
         self.pages.make(page, catalog, ty, tail, name)
     }
 
-    /// Makes room for so many further free pages.
-    pub(crate) fn reserve_free(&mut self, more: u32) -> Result<(), Memory>
-        ensures room { OnOk result (self.new ≡ with_free self.old self.old.free (max self.old.room more)) }
-        ensures refused { OnErr result (self.new ≡ self.old) }
-    {
-        let more = more as usize;
-        let Some(wanted) = more.checked_add(self.drawn.len()) else {
-            return Err(Memory);
-        };
-        let Ok(()) = self.free.reserve(wanted) else {
-            return Err(Memory);
-        };
-        self.room = self.room.max(more);
-        Ok(())
-    }
-
-    /// Adds a free page, in the room that was made.
-    pub(crate) fn add_free(&mut self, page: PageNo)
-        requires { 0 < self.old.room }
-        ensures { self.new ≡ with_free self.old (set.insert self.old.free page) (self.old.room - 1) }
-    {
-        self.free.add(page);
-        self.room -= 1;
-    }
-
-    /// Takes the least free page out, or answers None exactly where there is none.
-    pub(crate) fn least_free(&mut self) -> Option<PageNo>
-        ensures least { IsNext (set.contains self.old.free) 0 result }
-        ensures taken { MatchOption result (self.new ≡ self.old) (λ page. self.new ≡ with_free self.old (set.remove self.old.free page) (self.old.room + 1)) }
-    {
-        let Some(page) = self.free.take_least() else {
-            return None;
-        };
-        self.room += 1;
-        Some(page)
-    }
-
     /// The space as it was taken, with the pages drawn since among the free ones.
     pub(crate) fn undo(self) -> Space
         ensures space { result ≡ undone_space self result.room }
@@ -207,11 +164,11 @@ impl HeldSpace {
             number,
             pages,
             mut free,
-            room: _,
             first,
             current: _,
             drawn,
         } = self;
+        free.release();
         free.add_all(&drawn);
         Space {
             number,

@@ -99,7 +99,10 @@ impl Parted {
         ensures rejoin { CanRejoin self.old → CanRejoin self.new }
         ensures refused { OnErr result (self.new ≡ self.old) }
     {
-        self.rest.reserve_free(more)
+        let Some(space) = &mut self.rest.space else {
+            unreachable!()
+        };
+        space.free.reserve(more)
     }
 
     /// Adds a page to the free ones, in the room that was made.
@@ -109,7 +112,10 @@ impl Parted {
         ensures joined { joined self.new ≡ by_space (λ s. with_free s (set.insert s.free page) (s.room - 1)) (joined self.old) }
         ensures rejoin { CanRejoin self.old → CanRejoin self.new }
     {
-        self.rest.add_free(page);
+        let Some(space) = &mut self.rest.space else {
+            unreachable!()
+        };
+        space.free.add(page);
     }
 
     /// Takes the least free page out, or answers None exactly where there is none.
@@ -120,7 +126,10 @@ impl Parted {
         ensures joined { MatchOption result (joined self.new ≡ joined self.old) (λ page. joined self.new ≡ by_space (λ s. with_free s (set.remove s.free page) (s.room + 1)) (joined self.old)) }
         ensures rejoin { CanRejoin self.old → CanRejoin self.new }
     {
-        self.rest.least_free()
+        let Some(space) = &mut self.rest.space else {
+            unreachable!()
+        };
+        space.free.take_least()
     }
 
     /// Gives the pages and the space back as they were taken, except that the pages drawn since are free. It takes no memory.
@@ -190,7 +199,7 @@ fn part_space(alloc: Global, space: Option<HeldSpace>) -> (Pages, Option<RestSpa
 {
     match space {
         Some(space) => {
-            let (volatile, rest) = RestSpace::of(alloc, space);
+            let (volatile, rest) = RestSpace::of(space);
             (volatile, Some(rest))
         }
         None => (Pages::new(alloc), None),

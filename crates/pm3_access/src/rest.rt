@@ -1,12 +1,8 @@
 //! What stays of a holding that was parted.
-ghost use Rattle.std.specs.Prelude.{◌≡◌, ◌+◌, ◌<◌, ◌≤◌, ◌-◌, true, max, None, Some, is_some, OnOk, OnErr, MatchOption};
-ghost use Rattle.std.specs.FinSet as set;
-ghost use Rattle.pm3_page.specs.Next.{IsNext};
-ghost use Rattle.pm3_access.specs.Parts.{rest_with_free, rest_by_space, HasRestRoom, RestFreeIs};
+ghost use Rattle.std.specs.Prelude.{◌≡◌, is_some};
 
 use crate::rest_space::RestSpace;
-use pm3_page::{PageNo, Pages};
-use pm3_types::Memory;
+use pm3_page::Pages;
 use std::alloc::Global;
 use std::marker::Model;
 
@@ -42,40 +38,5 @@ impl Rest {
         ensures { result ≡ is_some self.now.space }
     {
         self.space.is_some()
-    }
-
-    /// Makes room for so many further free pages.
-    pub(crate) fn reserve_free(&mut self, more: u32) -> Result<(), Memory>
-        requires { is_some self.old.space ≡ true }
-        ensures room { OnOk result (self.new ≡ rest_by_space (λ s. rest_with_free s s.free (max s.room more)) self.old) }
-        ensures refused { OnErr result (self.new ≡ self.old) }
-    {
-        let Some(space) = &mut self.space else {
-            unreachable!()
-        };
-        space.reserve_free(more)
-    }
-
-    /// Adds a page to the free ones, in the room that was made.
-    pub(crate) fn add_free(&mut self, page: PageNo)
-        requires { HasRestRoom self.old.space }
-        ensures { self.new ≡ rest_by_space (λ s. rest_with_free s (set.insert s.free page) (s.room - 1)) self.old }
-    {
-        let Some(space) = &mut self.space else {
-            unreachable!()
-        };
-        space.add_free(page);
-    }
-
-    /// Takes the least free page out, or answers None exactly where there is none.
-    pub(crate) fn least_free(&mut self) -> Option<PageNo>
-        requires { is_some self.old.space ≡ true }
-        ensures least { RestFreeIs self.old.space (λ free. IsNext (set.contains free) 0 result) }
-        ensures taken { MatchOption result (self.new ≡ self.old) (λ page. self.new ≡ rest_by_space (λ s. rest_with_free s (set.remove s.free page) (s.room + 1)) self.old) }
-    {
-        let Some(space) = &mut self.space else {
-            unreachable!()
-        };
-        space.least_free()
     }
 }

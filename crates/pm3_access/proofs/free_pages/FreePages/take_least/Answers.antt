@@ -37,4 +37,5 @@ pub returns-clause-taken : goal.returns-clause-taken
 returns-clause-taken c = (
   ap set_of.from_list c.take_out.ensures.others ∙ removed c.in-Some.least c.self.inside.pages.items ∙ ap (λ (f : FreeList). set_of.remove f.pages c.in-Some.least) c.self.view_is,
   ap (λ (f : FreeList). f.room + 1) c.self.view_is,
+  ap (λ (f : FreeList). f.kept) c.self.view_is,
 )

@@ -10,6 +10,6 @@ returns-clause-taken c = search rules
 
 pub returns-clause-form : goal.returns-clause-form
 returns-clause-form c =
-    λ catalog refers sound. sound_option catalog BASE refers c.least_free.result c.args.self.now _ (λ page. by_space (λ s. with_free s (set.remove s.free page) (s.room + 1)) c.args.self.now)
+    λ catalog refers sound. sound_option catalog BASE refers c.take_least.result c.args.self.now _ (λ page. by_space (λ s. with_free s (set.remove s.free page) (s.room + 1)) c.args.self.now)
     (returns-clause-taken c)
     (λ page. sound_by_space catalog BASE refers (λ s. with_free s (set.remove s.free page) (s.room + 1)) c.args.self.now (λ s. refl) sound) sound

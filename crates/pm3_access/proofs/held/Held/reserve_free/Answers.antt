@@ -12,6 +12,6 @@ returns-clause-refused c = search rules
 
 pub returns-clause-form : goal.returns-clause-form
 returns-clause-form c =
-    λ catalog refers sound. sound_result catalog BASE refers c.reserve_free.result c.args.self.now _ (by_space (λ s. with_free s s.free (max s.room c.args.more)) c.args.self.now)
+    λ catalog refers sound. sound_result catalog BASE refers c.reserve.result c.args.self.now _ (by_space (λ s. with_free s s.free (max s.room c.args.more)) c.args.self.now)
     (returns-clause-room c) (returns-clause-refused c)
     (sound_by_space catalog BASE refers (λ s. with_free s s.free (max s.room c.args.more)) c.args.self.now (λ s. refl)) sound

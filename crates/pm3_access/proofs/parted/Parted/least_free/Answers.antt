@@ -6,7 +6,7 @@ pub returns-clause-taken : goal.returns-clause-taken
 returns-clause-taken c = search rules
 
 pub returns-clause-joined : goal.returns-clause-joined
-returns-clause-joined c = joined_least c.least_free.result c.args.self.now _ (returns-clause-taken c)
+returns-clause-joined c = joined_least c.take_least.result c.args.self.now _ (returns-clause-taken c)
 
 pub returns-clause-rejoin : goal.returns-clause-rejoin
-returns-clause-rejoin c = rejoin_least c.least_free.result c.args.self.now _ (returns-clause-taken c)
+returns-clause-rejoin c = rejoin_least c.take_least.result c.args.self.now _ (returns-clause-taken c)

@@ -9,10 +9,10 @@ pub returns-clause-refused : goal.returns-clause-refused
 returns-clause-refused c = search rules
 
 pub returns-clause-joined : goal.returns-clause-joined
-returns-clause-joined c = joined_ok (λ free. free) (λ room. max room c.args.more) c.reserve_free.result c.args.self.now _ (returns-clause-room c)
+returns-clause-joined c = joined_ok (λ free. free) (λ room. max room c.args.more) c.reserve.result c.args.self.now _ (returns-clause-room c)
 
 pub returns-clause-rejoin : goal.returns-clause-rejoin
-returns-clause-rejoin c = rejoin_ok (λ free. free) (λ room. max room c.args.more) c.reserve_free.result c.args.self.now _ (returns-clause-room c) (returns-clause-refused c)
+returns-clause-rejoin c = rejoin_ok (λ free. free) (λ room. max room c.args.more) c.reserve.result c.args.self.now _ (returns-clause-room c) (returns-clause-refused c)
 
 pub returns-clause-enough : goal.returns-clause-enough
-returns-clause-enough c = enough_ok c.args.more c.reserve_free.result c.args.self.now _ (returns-clause-room c)
+returns-clause-enough c = enough_ok c.args.more c.reserve.result c.args.self.now _ (returns-clause-room c)
