@@ -1,13 +1,13 @@
 -- A write changes one word of one body.
-use Rattle.std.proofs.Common.{◌≡◌, ◌+◌, ◌<◌, ◌≤◌, ◌∙◌, ℕ, true, false, List, Option, Some, None, refl, sym, ap, arith}
+use Rattle.std.proofs.Common.{◌≡◌, ◌+◌, ◌∙◌, ℕ, true, List, Option, Some, None, refl, sym, ap, arith}
 use Rattle.std.specs.Option.{option_map}
 use mathlib.Core.Bool.{true≢false}
 use Rattle.pm3_types.specs.Fields.{Fields}
-use Rattle.pm3_types.specs.Layout.{PageImage, page_in, word_in, size_by, size_at, with_word_at}
+use Rattle.pm3_types.specs.Layout.{PageImage, page_in, word_in, size_by}
 use Rattle.pm3_types.specs.PageForm.{map_at, tail_at}
 use Rattle.pm3_access.specs.declared.places.Place.{Place}
 use Rattle.pm3_access.specs.declared.spots.Spot.{Spot}
-use Rattle.pm3_access.specs.Access.{begins_in, is_object_held, written_by, value_written}
+use Rattle.pm3_access.specs.Access.{begins_in, written_by}
 use Rattle.pm3_access.specs.BodyWrites.{IsBodyWrite, WritesChangeOneWord}
 use Rattle.pm3_access.specs.Holding.{Holding, image_in}
 use Rattle.pm3_access.specs.Spots.{spot_in, word_of, with_value_in}

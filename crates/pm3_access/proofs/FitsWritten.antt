@@ -1,32 +1,17 @@
 -- A book that fits images still fits them when a word in an object's body is another.
-use Rattle.std.proofs.Common.{◌≡◌, ◌≢◌, ◌<◌, ◌≤◌, ◌+◌, ◌-◌, ◌&&◌, ◌∙◌, inl, inr, ℕ, true, not, List, length, get_or, set, Option, Some, None, sym, ap, subst, arith, get_or-set_other, get_or-set_same}
+use Rattle.std.proofs.Common.{◌≡◌, ◌≢◌, ◌<◌, ◌≤◌, ◌+◌, ◌&&◌, ◌∙◌, inl, inr, ℕ, true, not, List, length, get_or, set, Some, sym, ap, subst, arith, get_or-set_other, get_or-set_same}
 use Rattle.std.proofs.lemmas.Bool.{cases_eq, cases_lt, and_parts}
 use Rattle.std.specs.Prelude.{slice_get, slice_index}
 use Rattle.std.specs.FinMap.{get, insert}
 use mathlib.Core.Bool.{true≢false}
 use Rattle.pm3_types.specs.Fields.{Fields}
-use Rattle.pm3_types.specs.declared.type_map.Tail as tails
-use Rattle.pm3_types.specs.declared.type_map.Tail.TheVariants.{Empty, Refs, Bytes}
-use Rattle.pm3_types.specs.Layout.{Sheet, is_start, is_forwarded, is_unmoved, is_address, page_in, word_in, type_in, tail_in, tail_words, size_by, size_at, with_word}
-use Rattle.pm3_types.specs.PageForm.{IsReferenceIn, IsTailReference, map_at, tail_at}
+use Rattle.pm3_types.specs.Layout.{Sheet, is_start, is_forwarded, is_unmoved, is_address, page_in, word_in, type_in, tail_in, size_at, with_word}
+use Rattle.pm3_types.specs.PageForm.{IsReferenceIn, map_at, tail_at}
 use Rattle.pm3_types.specs.Shown.{Book, Images, IsKnown, FitsImages}
+use Rattle.pm3_types.proofs.FormedObjects.{reference_within}
 use Rattle.pm3_access.proofs.Homes.{some_of}
 use Rattle.pm3_access.proofs.HeldObjects.{IsThere}
 use Rattle.pm3_access.proofs.HeldSheets.{sheet_same, sheet_other}
-
-tail_within : (tail : tails.Tail) (len k : ℕ) → IsTailReference tail len k → k < tail_words tail len
-tail_within Empty len k is = absurd is
-tail_within Refs len k is = is
-tail_within Bytes len k is = absurd is
-
--- a reference lies in the object
-pub reference_within : (o : Option Fields) (len k : ℕ) → IsReferenceIn o len k → 2 + k < size_by o len
-reference_within None len k is = absurd is
-reference_within (Some map) len k (inl is) = (let low = is.0 in omega arith)
-reference_within (Some map) len k (inr is) =
-    let past = is.0 in
-    let low = tail_within map.tail len (k - map.count) is.1 in
-    omega arith
 
 module _ (catalog : List Fields) (base : ℕ) (book : Book) (images : Images) (a n : ℕ) (map : Fields) (sheet : Sheet) (there : IsThere catalog base book images a n map sheet) (i x : ℕ)
     (from : word_in base a + 2 ≤ i) (until : i < word_in base a + size_at catalog sheet (word_in base a)) where

@@ -17,7 +17,7 @@ use Rattle.pm3_access.specs.Holding.{Holding, HeldImages, HeldSpaceState, image_
 use Rattle.pm3_access.proofs.Homes as images_at
 use Rattle.pm3_access.proofs.Homes.{some_of, is_some_none}
 use Rattle.pm3_access.proofs.HeldSheets.{sheet_same, sheet_other, get-left_images, get-found_images}
-use Rattle.pm3_access.proofs.Within.{blank_starts}
+use Rattle.pm3_types.proofs.FormedObjects.{blank_starts}
 use Rattle.pm3_access.proofs.WriteSteps.{same_roots}
 
 -- images that answer alike are equal

@@ -14,7 +14,8 @@ use Rattle.pm3_page.specs.PageSheets.{sheet_in}
 use Rattle.pm3_access.specs.Acts.{left_images, map_by, map_held, IsHeldAs}
 use Rattle.pm3_access.specs.Holding.{Holding, image_in}
 use Rattle.pm3_access.proofs.HeldSheets.{get-left_images}
-use Rattle.pm3_access.proofs.Within.{objects_of, start_of, some_map, is_unmoved, address_held}
+use Rattle.pm3_types.proofs.FormedObjects.{objects_of, start_of, some_map, address_of}
+use Rattle.pm3_access.proofs.Bodies.{is_unmoved}
 
 -- an object with this map lies on this sheet, and the book, which fits the images, has it under the name n
 pub record IsThere (catalog : List Fields) (base : ℕ) (book : Book) (images : Images) (a n : ℕ) (map : Fields) (sheet : Sheet) : Type 0 where
@@ -44,12 +45,12 @@ there_of catalog base book h a n map held = of (image_in h (page_in base a)) ref
     of (Some image) is =
         let begins : begins_at base image a ≡ true = sym (ap (λ (o : Option PageImage). begins_in base o a) is) ∙ held.object in
         let sound : ImageHasForm catalog held.refers image = held.form (page_in base a) image is in
-        let objects = objects_of catalog base held.refers image (word_in base a) sound (start_of base image a begins) in (
+        let objects = objects_of catalog held.refers image.page image.sheet (word_in base a) sound (start_of base image a begins) in (
           image,
           is,
           record {
             on = get-left_images h (page_in base a) ∙ ap sheet_in is;
-            address = address_held base image a begins;
+            address = address_of base image a begins;
             apart = λ e. objects.0 (sym (page_is base image a begins) ∙ e);
             laid = objects.1.laid;
             starts = start_of base image a begins;
@@ -68,7 +69,7 @@ map_of catalog base refers h a sound object = of (image_in h (page_in base a)) r
     of None none = absurd (true≢false (sym object ∙ ap (λ (o : Option PageImage). begins_in base o a) none))
     of (Some image) is =
         let begins : begins_at base image a ≡ true = sym (ap (λ (o : Option PageImage). begins_in base o a) is) ∙ object in
-        let objects = objects_of catalog base refers image (word_in base a) (sound (page_in base a) image is) (start_of base image a begins) in
+        let objects = objects_of catalog refers image.page image.sheet (word_in base a) (sound (page_in base a) image is) (start_of base image a begins) in
         let whole = objects.1.laid.whole (word_in base a) (start_of base image a begins) in
         let found = some_map (map_at catalog image.sheet (word_in base a)) (tail_at image.sheet (word_in base a)) whole.1 in
         (found.0, ap (λ (o : Option PageImage). map_by catalog o (word_in base a)) is ∙ found.1)

@@ -1,4 +1,5 @@
 pub mod AdmitSteps
+pub mod Bodies
 pub mod CallPlaces
 pub mod CallSteps
 pub mod FitsWritten
@@ -27,8 +28,6 @@ pub mod SoundingHeld
 pub mod SoundingMade
 pub mod SoundingPages
 pub mod SoundingPlaces
-pub mod SoundingPlacings
-pub mod Within
 pub mod WriteSteps
 pub mod Writing
 pub mod BodyWriting

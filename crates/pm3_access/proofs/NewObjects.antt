@@ -5,7 +5,7 @@ use Rattle.std.proofs.lemmas.List.{length-replicate, get_or-replicate, get_or_ap
 use mathlib.Core.Bool.{true≢false}
 use Rattle.pm3_types.specs.Fields.{Fields}
 use Rattle.pm3_types.specs.Layout.{Sheet, IsLaid, blank_sheet, is_start, is_forwarded, type_in, tail_in, end_of, used_in, head_of, page_head, zeroed, placed}
-use Rattle.pm3_access.proofs.Within.{blank_starts}
+use Rattle.pm3_types.proofs.FormedObjects.{blank_starts}
 
 abbrev none : ℕ
 none = 0

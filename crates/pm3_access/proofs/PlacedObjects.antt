@@ -22,7 +22,7 @@ use Rattle.pm3_graph.specs.Operation.{with_record}
 use Rattle.pm3_access.proofs.Homes.{some_of}
 use Rattle.pm3_access.proofs.HeldSheets.{sheet_same, sheet_other}
 use Rattle.pm3_access.proofs.HeldObjects.{object_is}
-use Rattle.pm3_access.proofs.FitsWritten.{reference_within}
+use Rattle.pm3_types.proofs.FormedObjects.{reference_within}
 use Rattle.pm3_access.proofs.NewObjects.{word_before, word_within, at_head, at_name, start_here, start_else, type_of_head, tail_of_head, head_unmoved}
 use Rattle.pm3_access.proofs.MoreNames.{get_here, get_else, old_apart, old_named, known_kept, object_kept, roots_kept, one_more}
 

@@ -1,16 +1,16 @@
 -- Reads and writes of root slots of what is held.
-use Rattle.std.proofs.Common.{◌≡◌, ◌≢◌, ◌<◌, ◌≤◌, ◌+◌, ◌∙◌, inl, inr, ℕ, Bool, true, List, length, set, Option, Some, None, Ok, is_some, refl, sym, ap, subst, arith, length-set, get_or-set_other, get_or-set_same}
+use Rattle.std.proofs.Common.{◌≡◌, ◌<◌, ◌+◌, ◌∙◌, inl, inr, ℕ, Bool, true, List, length, set, Option, Some, None, Ok, refl, sym, ap, subst, arith, length-set, get_or-set_other, get_or-set_same}
 use Rattle.std.proofs.lemmas.Bool.{cases_eq}
 use Rattle.std.specs.Prelude.{slice_index}
 use Rattle.std.specs.Option.{option_map, option_or}
 use Rattle.std.specs.FinMap as map
 use Rattle.pm3_types.specs.Fields.{Fields}
-use Rattle.pm3_types.specs.Layout.{Sheet, PageImage, with_word, with_word_at}
-use Rattle.pm3_types.specs.PageForm.{HasForm, HasRoots, is_page_head}
-use Rattle.pm3_types.specs.Shown.{Book, Images, IsKnown, FitsImages, name_by, shown}
+use Rattle.pm3_types.specs.Layout.{PageImage, with_word, with_word_at}
+use Rattle.pm3_types.specs.PageForm.{HasRoots, is_page_head}
+use Rattle.pm3_types.specs.Shown.{Images, IsKnown, FitsImages, name_by, shown}
 use Rattle.pm3_page.specs.PageMap as page_map
 use Rattle.pm3_page.specs.PageSheets.{sheet_in}
-use Rattle.pm3_access.specs.Access.{HaveForm, ImageHasForm}
+use Rattle.pm3_access.specs.Access.{HaveForm}
 use Rattle.pm3_access.specs.Acts.{AreInPlace, left_images, left_part}
 use Rattle.pm3_access.specs.Holding.{Holding, HeldImages, AreFound, image_in, space_now, with_image}
 use Rattle.pm3_access.specs.Parts.{HaveRoomFor}

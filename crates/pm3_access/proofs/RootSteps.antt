@@ -1,5 +1,5 @@
 -- A root slot of the images is one of the part that they show.
-use Rattle.std.proofs.Common.{◌≡◌, ◌≢◌, ◌<◌, ◌+◌, ◌∙◌, inl, inr, ℕ, Bool, true, false, cond, not, ◌&&◌, List, length, set, Option, Some, None, Ok, refl, sym, ap, subst, arith, get_or-set_other, get_or-set_same}
+use Rattle.std.proofs.Common.{◌≡◌, ◌≢◌, ◌<◌, ◌+◌, ◌∙◌, inl, inr, ℕ, Bool, false, cond, not, ◌&&◌, List, length, Option, Some, None, Ok, refl, sym, ap, subst, arith, get_or-set_other, get_or-set_same}
 use Rattle.std.proofs.lemmas.Bool.{cases_eq, and_parts}
 use Rattle.std.proofs.lemmas.List.FromFn.{get_or-map-range_with_len}
 use Rattle.std.specs.Prelude.{slice_index, slice_set}
@@ -9,11 +9,11 @@ use Rattle.pm3_types.specs.declared.type_map.Tail.TheVariants.{Refs}
 use Rattle.pm3_types.specs.Fields.{Fields}
 use Rattle.pm3_types.specs.Record.{Record}
 use Rattle.pm3_types.specs.Graph.{Part}
-use Rattle.pm3_types.specs.Layout.{Sheet, is_start, is_forwarded, is_unmoved, is_address, page_in, word_in, with_word}
+use Rattle.pm3_types.specs.Layout.{Sheet, is_start, is_forwarded, is_address, page_in, word_in, with_word}
 use Rattle.pm3_types.specs.Shown.{Book, Images, IsKnown, FitsImages, list_of, name_by, record_at, object_in, object_at, roots_in, shown_records, shown}
 use Rattle.pm3_types.proofs.Books.{shown_alike}
 use Rattle.pm3_graph.specs.declared.operations.Op.TheVariants as ops
-use Rattle.pm3_graph.specs.Operation.{IsStep, root_of, set_root_of, with_root}
+use Rattle.pm3_graph.specs.Operation.{IsStep, root_of, set_root_of}
 use Rattle.pm3_access.proofs.Homes.{some_of}
 use Rattle.pm3_access.proofs.HeldSheets.{sheet_same, sheet_other}
 use Rattle.pm3_access.proofs.RecordWrites.{refs_written}

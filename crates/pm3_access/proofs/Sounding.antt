@@ -1,30 +1,11 @@
 -- A word written within an object, below its head and its name, leaves the page's form.
-use Rattle.std.proofs.Common.{◌≡◌, ◌≢◌, ◌<◌, ◌≤◌, ◌+◌, ◌-◌, ◌*◌, ◌/◌, ◌∙◌, inl, inr, ℕ, Bool, true, List, length, get_or, set, Option, Some, None, slice_get, sym, ap, subst, arith, get_or-set_other, get_or-set_same}
+use Rattle.std.proofs.Common.{◌≡◌, ◌≢◌, ◌<◌, ◌≤◌, ◌+◌, ◌-◌, ◌*◌, ◌∙◌, inl, inr, ℕ, Bool, true, List, length, get_or, set, slice_get, sym, ap, subst, arith, get_or-set_other, get_or-set_same}
 use Rattle.std.proofs.lemmas.Bool.{cases_lt, cases_eq, false≢true}
 use Rattle.pm3_types.specs.Fields.{Fields}
-use Rattle.pm3_types.specs.declared.type_map.Tail.{Tail}
-use Rattle.pm3_types.specs.declared.type_map.Tail.TheVariants.{Empty, Refs, Bytes}
-use Rattle.pm3_types.specs.Layout.{Sheet, is_start, type_in, tail_in, tail_words, size_by, size_at, with_word}
-use Rattle.pm3_types.specs.PageForm.{HasObjects, IsReferenceIn, IsTailReference, IsTailBytes, is_head_of, is_name, is_padded, is_page_head, map_at, tail_at}
+use Rattle.pm3_types.specs.Layout.{Sheet, is_start, type_in, tail_in, size_at, with_word}
+use Rattle.pm3_types.specs.PageForm.{HasObjects, IsReferenceIn, IsTailBytes, is_head_of, is_name, is_padded, is_page_head, map_at, tail_at}
 use Rattle.pm3_types.proofs.Writes.{still_laid}
-
-tail_within : (tail : Tail) (len k : ℕ) → IsTailReference tail len k → k < tail_words tail len
-tail_within Empty len k item = absurd item
-tail_within Refs len k item = item
-tail_within Bytes len k item = absurd item
-
--- a reference of an object lies within it
-pub reference_within : (o : Option Fields) (len k : ℕ) → IsReferenceIn o len k → 2 + k < size_by o len
-reference_within None len k item = absurd item
-reference_within (Some map) len k (inl field) = omega (arith, field.0)
-reference_within (Some map) len k (inr item) = omega (arith, item.0, tail_within map.tail len (k - map.count) item.1)
-
--- a word with bytes of an object's tail lies within it
-pub bytes_within : (o : Option Fields) (len j k : ℕ) → IsTailBytes o len j k → 2 + k < size_by o len
-bytes_within None len j k item = absurd item
-bytes_within (Some map) len j k item =
-    let words : tail_words map.tail len ≡ (len + 7) / 8 = ap (λ (t : Tail). tail_words t len) item.0 in
-    omega (arith, words, item.1, item.2)
+use Rattle.pm3_types.proofs.FormedObjects.{reference_within, bytes_within}
 
 module _ (catalog : List Fields) (refers : ℕ → Bool) (page : ℕ) (sheet : Sheet) (s i v : ℕ) (form : HasObjects catalog refers page sheet)
     (start : is_start sheet s ≡ true) (from : s + 2 ≤ i) (until : i < s + size_at catalog sheet s) where

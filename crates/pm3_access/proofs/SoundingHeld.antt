@@ -14,7 +14,7 @@ use Rattle.pm3_access.specs.Holding.{Holding, HeldImages, HeldSpaceState, SpaceS
 use Rattle.pm3_access.specs.Sound.{refers_in, IsReferenceFor, ImagesHaveForm}
 use Rattle.pm3_access.specs.Spots.{IsValueFor, with_value_at_place}
 use Rattle.pm3_access.proofs.Homes.{get_same, get_other, some_of, is_some_none, nothing_there}
-use Rattle.pm3_access.proofs.Within.{start_of}
+use Rattle.pm3_types.proofs.FormedObjects.{start_of}
 use Rattle.pm3_access.proofs.SoundingPlaces.{sound_written}
 
 abbrev held_by : HeldImages → Option HeldSpaceState → Holding

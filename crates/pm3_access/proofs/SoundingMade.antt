@@ -1,5 +1,5 @@
 -- A new object keeps the form of what is held.
-use Rattle.std.proofs.Common.{◌≡◌, ◌≢◌, ◌<◌, ◌≤◌, ◌+◌, ◌^◌, ◌&&◌, ◌||◌, ◌∙◌, inl, inr, ℕ, Bool, true, false, not, eqb, leb, ltb, List, length, Option, Some, None, slice_get, refl, sym, ap, subst, arith}
+use Rattle.std.proofs.Common.{◌≡◌, ◌≢◌, ◌<◌, ◌≤◌, ◌+◌, ◌^◌, ◌||◌, ◌∙◌, inl, inr, ℕ, Bool, true, false, not, eqb, leb, ltb, List, length, Option, Some, None, slice_get, refl, sym, ap, subst, arith}
 use Rattle.std.specs.Option.{option_or, option_map, option_and_then}
 use Rattle.std.specs.FinMap as map
 use Rattle.std.proofs.lemmas.Bool.{cases_Bool, and_parts, leb-true, lt-ltb, eq-eqb, false≢true}
@@ -13,7 +13,7 @@ use Rattle.pm3_access.specs.Holding.{Holding, HeldImages, HeldSpaceState}
 use Rattle.pm3_access.specs.Making.{has_space_for, has_room_for, current_in, current_image, space_made, IsMade}
 use Rattle.pm3_access.specs.Sound.{HasLowPage}
 use Rattle.pm3_access.proofs.SoundingPages.{both}
-use Rattle.pm3_access.proofs.SoundingPlacings.{sound_placed}
+use Rattle.pm3_types.proofs.PlacedForm.{form_placed}
 use Rattle.pm3_access.proofs.SoundingHeld.{sound_in_space}
 
 type_back : (ty tail : ℕ) → ty < 2 ^ 16 → type_in (head_of ty tail) ≡ ty
@@ -67,7 +67,7 @@ module _ (catalog : List Fields) (base : ℕ) (refers : ℕ → Bool) (nil : ref
       → ImageHasForm catalog refers (placed_on image size (head_of ty tail) name)
   image_made image room small form =
       let tests = and_parts (not (eqb image.page 2)) (leb (end_of image.sheet + size) 512) room in
-      sound_placed catalog refers image size (head_of ty tail) name nil form (apart_by image.page tests.0) small two (leb-true (end_of image.sheet + size) 512 tests.1) sized headed
+      form_placed catalog refers image size (head_of ty tail) name nil form (apart_by image.page tests.0) small two (leb-true (end_of image.sheet + size) 512 tests.1) sized headed
       (name_form name named.0 named.1)
 
   in_space : (p : HeldImages) (s : HeldSpaceState) (current : Option ℕ) (found : Option PageImage) → option_and_then (map.get s.images.left) current ≡ found → has_room_for found size ≡ true

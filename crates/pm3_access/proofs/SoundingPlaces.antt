@@ -15,7 +15,7 @@ use Rattle.pm3_access.specs.Spots.{spot_if, spot_in, with_byte, with_value_in, w
 use Rattle.pm3_access.specs.Access.{ImageHasForm}
 use Rattle.pm3_access.specs.Sound.{refers_by}
 use Rattle.pm3_access.proofs.Homes.{some_of, is_some_none}
-use Rattle.pm3_access.proofs.Within.{objects_of}
+use Rattle.pm3_types.proofs.FormedObjects.{objects_of}
 use Rattle.pm3_access.proofs.Sounding.{objects_written}
 use Rattle.pm3_access.proofs.SoundingBytes.{byte_padded}
 
@@ -51,7 +51,7 @@ module _ (catalog : List Fields) (base : ℕ) (refers : ℕ → Bool) (image : P
       → ((j : ℕ) → IsTailBytes (map_at catalog image.sheet at) len j k → is_padded (len - 8 * j) w ≡ true)
       → ImageHasForm catalog refers (with_word_at image (at + 2 + k) w)
   sound_word k w within refer pad =
-      let parts = objects_of catalog base refers image at form start in
+      let parts = objects_of catalog refers image.page image.sheet at form start in
       record {
         roots = λ e. absurd (parts.0 e);
         objects = λ apart. inr (objects_written catalog refers image.page image.sheet at (at + 2 + k) w parts.1 start (omega arith) (omega arith)
@@ -81,7 +81,7 @@ module _ (catalog : List Fields) (base : ℕ) (refers : ℕ → Bool) (image : P
     byte_written k v has low byte =
         let bytes = bytes_tail map.tail has in
         let words : tail_words map.tail len ≡ (len + 7) / 8 = ap (λ (t : Tail). tail_words t len) bytes in
-        let parts = objects_of catalog base refers image at form start in
+        let parts = objects_of catalog refers image.page image.sheet at form start in
         sound_word (map.count + k / 8) (with_byte (get_or image.sheet.words (at + 2 + (map.count + k / 8)) 0) (k % 8) v) (omega (arith, size, words))
         (λ item. absurd (no_reference map len (k / 8) bytes (subst (λ (o : Option Fields). IsReferenceIn o len (map.count + k / 8)) is item)))
         (λ j item. (let own = subst (λ (o : Option Fields). IsTailBytes o len j (map.count + k / 8)) is item in

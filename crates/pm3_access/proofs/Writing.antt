@@ -21,7 +21,7 @@ use Rattle.pm3_access.specs.Holding.{HeldImages, with_image}
 use Rattle.pm3_access.specs.Making.{has_room_for, next_address, images_made, IsMadeOn}
 use Rattle.pm3_access.specs.declared.places.NoPlace.{NoPlace}
 use Rattle.pm3_access.proofs.Homes.{get_same, get_other, some_of, is_some_none}
-use Rattle.pm3_access.proofs.Within.{page_low, address_held}
+use Rattle.pm3_types.proofs.FormedObjects.{page_low, address_of}
 
 kept_by : (image new : PageImage) (at v : ℕ) (o : Option Spot) → option_map (λ spot. with_value_in image at spot v) o ≡ Some new → new.page ≡ image.page
 kept_by image new at v None e = absurd (is_some_none new e)
@@ -42,7 +42,7 @@ insert_there images page image is = same_map nat_cmp_total nat_cmp-IsAntisymmetr
 -- the page of an object that is held
 pub held_address : (base : ℕ) (o : Option PageImage) (a : ℕ) → begins_in base o a ≡ true → is_address base a ≡ true
 held_address base None a e = absurd (true≢false (sym e))
-held_address base (Some image) a e = address_held base image a e
+held_address base (Some image) a e = address_of base image a e
 
 pub held_low : (catalog : List Fields) (base : ℕ) (o : Option PageImage) (a : ℕ) → ((image : PageImage) → o ≡ Some image → IsSound catalog base 16384 image) → begins_in base o a ≡ true → page_in base a < 2 ^ 32
 held_low catalog base None a sound e = absurd (true≢false (sym e))

@@ -11,7 +11,7 @@ use pm3_page::{Addr, BASE, Image};
 use pm3_types::{Catalog, Tail, TypeMap, TypeNo};
 
 /// Where a place of the object at `at` lies, or None exactly where the object has no such place.
-#[tactic(auto, using(crate::proofs::Within::is_unmoved, crate::proofs::Within::body_within))]
+#[tactic(auto, using(crate::proofs::Bodies::is_unmoved, crate::proofs::Bodies::body_within))]
 fn spot(image: &Image, catalog: &Catalog, at: Addr, place: Place) -> Option<Spot>
     requires object { begins_at BASE image.now at ≡ true }
     requires sound { IsSound catalog.now BASE 16384 image.now }

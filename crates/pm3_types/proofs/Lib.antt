@@ -11,16 +11,18 @@ pub mod OneObject
 pub mod Writes
 pub mod PlaceWrites
 pub mod Placings
+pub mod FormedObjects
+pub mod PlacedForm
 pub mod PassRecords
 pub mod PassCarried
 pub mod PassClosed
 pub mod PassLater
+pub mod Meeting
 -- Lemmas of this crate.
 mod Padding
 mod Reading
 mod Closures
 mod Dumping
 mod NamesIn
-mod Meeting
 mod TriedImages
 mod TriedMoves

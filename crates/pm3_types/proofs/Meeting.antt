@@ -212,7 +212,7 @@ module _ (catalog : List Fields) (g : Part) where
       tests ∙ sym (contains_key-keys g.records n) ∙ there
 
   -- no more names are met than there are records
-  few_met : length (met_names catalog g) ≤ len g.records
+  pub few_met : length (met_names catalog g) ≤ len g.records
   few_met =
       let most : length (met_names catalog g) ≤ length (keys g.records) =
       length-le_from_is_member nat_eq_equiv (met_names catalog g) (keys g.records) all_looked.distinct (λ n among. in_keys n (all_looked.there n among)) in

@@ -14,6 +14,7 @@ pub mod Dump
 pub mod Tried
 pub mod Layout
 pub mod PageForm
+pub mod Whole
 pub mod Shown
 pub mod ImageLaws
 pub mod Objects

@@ -8,7 +8,7 @@ use Rattle.pm3_access.specs.Sound.{HasLowPage}
 use Rattle.pm3_access.proofs.CallPlaces.{of}
 use Rattle.pm3_access.proofs.CallSteps.{make_call}
 use Rattle.pm3_access.proofs.MakeSteps.{make_place}
-use Rattle.pm3_access.proofs.SoundingPlacings.{nil_refers}
+use Rattle.pm3_types.proofs.PlacedForm.{nil_refers}
 use Rattle.pm3_access.proofs.SoundingMade.{sound_made}
 use Rattle.pm3_access.proofs.held.Held.make.Goals as goal
 

@@ -1,18 +1,19 @@
 -- A new object behind the last one leaves the form of the page.
-use Rattle.std.proofs.Common.{◌≡◌, ◌≢◌, ◌⊎◌, ◌<◌, ◌≤◌, ◌+◌, ◌-◌, ◌*◌, ◌/◌, ◌%◌, ◌^◌, ◌&&◌, ◌||◌, ◌++◌, ◌∙◌, inl, inr, ℕ, Bool, true, false, eqb, leb, List, length, get_or, set, take, drop, replicate, Some, slice_get, refl, sym, ap, subst, arith, length-set, length-append, length-drop, length-take-le, get_or-set_other, get_or-set_same, get_or-take}
-use Rattle.std.proofs.lemmas.Bool.{cases_eq, cond-false, ne_eqb, eq-eqb, lt-ltb, le-leb, false≢true}
+use Rattle.std.proofs.Common.{◌≡◌, ◌≢◌, ◌⊎◌, ◌<◌, ◌≤◌, ◌+◌, ◌-◌, ◌*◌, ◌/◌, ◌%◌, ◌^◌, ◌&&◌, ◌||◌, ◌++◌, ◌∙◌, inl, inr, ℕ, zero, suc, Bool, true, false, eqb, leb, List, length, get_or, set, take, drop, replicate, Some, slice_get, refl, sym, ap, subst, arith, length-set, length-append, length-drop, length-take-le, get_or-set_other, get_or-set_same, get_or-take}
+use Rattle.std.proofs.lemmas.Bool.{cases_eq, and_from, cond-false, ne_eqb, eq-eqb, lt-ltb, le-leb, false≢true}
 use Rattle.std.proofs.lemmas.List.{length-replicate, get_or_append_left, get_or-append_right}
 use Rattle.std.proofs.Math.Nat.{zero-div}
 use Rattle.std.proofs.Math.Bool.{or-true}
-use Rattle.pm3_core.proofs.Functions.{get_or-replicate_default}
 use Rattle.pm3_types.specs.Fields.{Fields}
-use Rattle.pm3_types.specs.Layout.{Sheet, PageImage, IsLaid, blank_sheet, is_start, type_in, tail_in, size_of, size_at, end_of, used_in, page_head, zeroed, placed, placed_on}
-use Rattle.pm3_types.specs.PageForm.{HasObjects, IsReferenceIn, IsTailBytes, is_head_of, is_name, is_padded, is_page_head, is_memory_reference, map_at, tail_at}
+use Rattle.pm3_types.specs.Layout.{Sheet, PageImage, IsLaid, blank_sheet, is_start, type_in, tail_in, size_of, size_at, end_of, used_in, page_head, zeroed, placed}
+use Rattle.pm3_types.specs.PageForm.{HasForm, HasObjects, IsReferenceIn, IsTailBytes, is_head_of, is_name, is_padded, is_page_head, is_memory_reference, map_at, tail_at}
 use Rattle.pm3_types.proofs.Placings.{placed_laid}
-use Rattle.pm3_access.specs.Access.{ImageHasForm}
-use Rattle.pm3_access.proofs.SoundingPages.{both}
-use Rattle.pm3_access.proofs.Sounding.{reference_within, bytes_within}
-use Rattle.pm3_access.proofs.Within.{blank_starts}
+use Rattle.pm3_types.proofs.FormedObjects.{reference_within, bytes_within, blank_starts}
+
+get_or-replicate_default : {A : Type 0} → (n : ℕ) (x : A) (k : ℕ) → get_or (replicate n x) k x ≡ x
+get_or-replicate_default zero x k = refl
+get_or-replicate_default (suc n) x zero = refl
+get_or-replicate_default (suc n) x (suc k) = get_or-replicate_default n x k
 
 -- the form of a page of objects, or of none, but for its first word
 pub record IsFilled (catalog : List Fields) (refers : ℕ → Bool) (sheet : Sheet) : Type 0 where
@@ -35,7 +36,7 @@ end_blank = refl
 no_object : (s : ℕ) → is_start blank_sheet s ≡ true → ⊥
 no_object s is = false≢true (sym (blank_starts 512 s) ∙ is)
 
-blank_laid : (catalog : List Fields) → IsLaid catalog blank_sheet
+pub blank_laid : (catalog : List Fields) → IsLaid catalog blank_sheet
 blank_laid catalog = record {
   words = length-replicate {A = ℕ} 512 0;
   starts = length-replicate {A = Bool} 512 false;
@@ -57,7 +58,7 @@ blank_filled catalog refers = record {
   padding = λ s j k is. absurd (no_object s is);
 }
 
-filled : (catalog : List Fields) (refers : ℕ → Bool) (page : ℕ) (sheet : Sheet) → (sheet ≡ blank_sheet) ⊎ HasObjects catalog refers page sheet → IsFilled catalog refers sheet
+pub filled : (catalog : List Fields) (refers : ℕ → Bool) (page : ℕ) (sheet : Sheet) → (sheet ≡ blank_sheet) ⊎ HasObjects catalog refers page sheet → IsFilled catalog refers sheet
 filled catalog refers page sheet (inl blank) = subst (IsFilled catalog refers) (sym blank) (blank_filled catalog refers)
 filled catalog refers page sheet (inr form) = record {
   second = form.second;
@@ -92,27 +93,27 @@ unfolding is_page_head page_head used_in
 page_head_form page used apart low more most =
     let upper : (page + 2 ^ 32 * used) / 2 ^ 32 ≡ used = omega arith in
     cond-false (eqb page 2) _ _ (ne_eqb page 2 apart)
-    ∙ both _ _ (eq-eqb ((page + 2 ^ 32 * used) % 2 ^ 32) page (omega arith)) (both _ _ (lt-ltb 2 ((page + 2 ^ 32 * used) / 2 ^ 32) (omega arith)) (le-leb ((page + 2 ^ 32 * used) / 2 ^ 32) 512 (omega arith)))
+    ∙ and_from _ _ (eq-eqb ((page + 2 ^ 32 * used) % 2 ^ 32) page (omega arith)) (and_from _ _ (lt-ltb 2 ((page + 2 ^ 32 * used) / 2 ^ 32) (omega arith)) (le-leb ((page + 2 ^ 32 * used) / 2 ^ 32) 512 (omega arith)))
 
 module _ (catalog : List Fields) (refers : ℕ → Bool) (page : ℕ) (sheet : Sheet) (size head name : ℕ) (form : IsFilled catalog refers sheet) (apart : page ≢ 2)
     (low : page < 2 ^ 32) (two : 2 ≤ size) (fits : end_of sheet + size ≤ 512) (sized : size_of catalog head ≡ size)
     (headed : (map : Fields) → slice_get catalog (type_in head) ≡ Some map → is_head_of map head ≡ true) (named : is_name name ≡ true) (nil : refers 0 ≡ true) where
-  abbrev now : Sheet
+  abbrev pub now : Sheet
   now = placed page sheet size head name
 
-  abbrev cleared : List ℕ
+  abbrev pub cleared : List ℕ
   cleared = zeroed sheet.words (end_of sheet) (end_of sheet + size)
 
-  begin : 2 ≤ end_of sheet
+  pub begin : 2 ≤ end_of sheet
   begin = form.laid.end.0
 
-  all : length cleared ≡ 512
+  pub all : length cleared ≡ 512
   all = length-zeroed sheet.words (end_of sheet) (end_of sheet + size) (omega arith) (omega (arith, form.laid.words)) ∙ form.laid.words
 
-  abbrev with_first : List ℕ
+  abbrev pub with_first : List ℕ
   with_first = set cleared 0 (page_head page (end_of sheet + size))
 
-  abbrev with_head : List ℕ
+  abbrev pub with_head : List ℕ
   with_head = set with_first (end_of sheet) head
 
   -- a word that is neither the page's first nor the object's first two
@@ -121,26 +122,26 @@ module _ (catalog : List Fields) (refers : ℕ → Bool) (page : ℕ) (sheet : S
       get_or-set_other with_head (end_of sheet + 1) i name 0 c ∙ get_or-set_other with_first (end_of sheet) i head 0 b
       ∙ get_or-set_other cleared 0 i (page_head page (end_of sheet + size)) 0 a
 
-  before : (i : ℕ) → 0 < i → i < end_of sheet → get_or now.words i 0 ≡ get_or sheet.words i 0
+  pub before : (i : ℕ) → 0 < i → i < end_of sheet → get_or now.words i 0 ≡ get_or sheet.words i 0
   before i some below =
       other_word i (λ e. omega arith) (λ e. omega arith) (λ e. omega arith)
       ∙ zeroed_before sheet.words (end_of sheet) (end_of sheet + size) (omega arith) (omega (arith, form.laid.words)) i below
 
-  inside : (i : ℕ) → end_of sheet + 2 ≤ i → i < end_of sheet + size → get_or now.words i 0 ≡ 0
+  pub inside : (i : ℕ) → end_of sheet + 2 ≤ i → i < end_of sheet + size → get_or now.words i 0 ≡ 0
   inside i from until =
       other_word i (λ e. omega arith) (λ e. omega arith) (λ e. omega arith)
       ∙ zeroed_inside sheet.words (end_of sheet) (end_of sheet + size) (omega arith) (omega (arith, form.laid.words)) i (omega arith) until
 
-  at_name : get_or now.words (end_of sheet + 1) 0 ≡ name
+  pub at_name : get_or now.words (end_of sheet + 1) 0 ≡ name
   at_name = get_or-set_same with_head (end_of sheet + 1) name 0
       (omega (arith, length-set with_first (end_of sheet) head, length-set cleared 0 (page_head page (end_of sheet + size)), all))
 
-  at_head : get_or now.words (end_of sheet) 0 ≡ head
+  pub at_head : get_or now.words (end_of sheet) 0 ≡ head
   at_head =
       get_or-set_other with_head (end_of sheet + 1) (end_of sheet) name 0 (λ e. omega arith)
       ∙ get_or-set_same with_first (end_of sheet) head 0 (omega (arith, length-set cleared 0 (page_head page (end_of sheet + size)), all))
 
-  first_word : get_or now.words 0 0 ≡ page_head page (end_of sheet + size)
+  pub first_word : get_or now.words 0 0 ≡ page_head page (end_of sheet + size)
   first_word =
       get_or-set_other with_head (end_of sheet + 1) 0 name 0 (λ e. omega arith)
       ∙ get_or-set_other with_first (end_of sheet) 0 head 0 (λ e. (let b = begin in omega arith))
@@ -211,11 +212,11 @@ pub nil_refers : (base pages : ℕ) → is_memory_reference base pages 0 ≡ tru
 unfolding is_memory_reference
 nil_refers base pages = refl
 
--- the image of a page that isn't that of roots is sound with one more object
-pub sound_placed : (catalog : List Fields) (refers : ℕ → Bool) (image : PageImage) (size head name : ℕ) → refers 0 ≡ true → ImageHasForm catalog refers image → image.page ≢ 2 → image.page < 2 ^ 32 → 2 ≤ size
+-- a page that isn't that of roots has its form with one more object
+pub form_placed : (catalog : List Fields) (refers : ℕ → Bool) (image : PageImage) (size head name : ℕ) → refers 0 ≡ true → HasForm catalog refers image.page image.sheet → image.page ≢ 2 → image.page < 2 ^ 32 → 2 ≤ size
     → end_of image.sheet + size ≤ 512 → size_of catalog head ≡ size → ((map : Fields) → slice_get catalog (type_in head) ≡ Some map → is_head_of map head ≡ true) → is_name name ≡ true
-    → ImageHasForm catalog refers (placed_on image size head name)
-sound_placed catalog refers image size head name nil form apart low two fits sized headed named = record {
+    → HasForm catalog refers image.page (placed image.page image.sheet size head name)
+form_placed catalog refers image size head name nil form apart low two fits sized headed named = record {
   roots = λ e. absurd (apart e);
   objects = λ away. inr (objects_placed catalog refers image.page image.sheet size head name
       (filled catalog refers image.page image.sheet (form.objects apart)) apart low two fits sized headed named nil);
