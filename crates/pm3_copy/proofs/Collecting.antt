@@ -8,7 +8,8 @@ use Rattle.pm3_types.proofs.Addressing as addressing
 use Rattle.pm3_page.specs.PageMap.{Images, IsAtHome}
 use Rattle.pm3_copy.specs.Whole.{IsObjectOf}
 use Rattle.pm3_copy.proofs.Listing.{list_none, list_one, list_join, list_as}
-use Rattle.pm3_copy.proofs.Wholes.{address_of, page_is, above_page, below_page, object_of, object_begins}
+use Rattle.pm3_types.proofs.FormedObjects.{address_of, page_is}
+use Rattle.pm3_copy.proofs.Wholes.{above_page, below_page, object_of, object_begins}
 
 -- a list behind another, in which the objects up to an address have been collected
 pub record AreAdded (base : ℕ) (image : PageImage) (at : ℕ) (old now : List ℕ) : Type 0 where

@@ -18,7 +18,8 @@ use Rattle.pm3_copy.specs.Spreading.{AreOnPages, Picks, before_of}
 use Rattle.pm3_copy.specs.Whole.{IsObjectOf}
 use Rattle.pm3_copy.proofs.Listing.{list_as, rising_room}
 use Rattle.pm3_copy.proofs.Stayers.{kept_apart}
-use Rattle.pm3_copy.proofs.Wholes.{address_of, above_page, below_page, object_there, sheet_on, whole_at}
+use Rattle.pm3_types.proofs.FormedObjects.{address_of}
+use Rattle.pm3_copy.proofs.Wholes.{above_page, below_page, object_there, sheet_on, whole_at}
 
 nothing_in : (a : ℕ) → Contains [] a → ⊥
 nothing_in a (k, low, is) = absurd (omega arith)

@@ -1,28 +1,16 @@
 -- What is found by one loop after another: the places of an object, the objects of an image, the images.
-use Rattle.std.proofs.Common.{◌≡◌, ◌≢◌, ℕ, ◌+◌, ◌-◌, ◌<◌, ◌≤◌, ◌⊎◌, Bool, true, false, List, Option, None, Some, slice_index, sym, ap, subst, ◌∙◌, arith, inl, inr}
+use Rattle.std.proofs.Common.{◌≡◌, ◌≢◌, ℕ, ◌+◌, ◌<◌, ◌≤◌, ◌⊎◌, Bool, true, false, List, Option, slice_index, sym, ap, subst, ◌∙◌, arith, inl, inr}
 use Rattle.std.proofs.lemmas.Bool.{cases_lt, cases_eq, false≢true}
 use Rattle.std.specs.List.{Contains}
 use Rattle.pm3_types.specs.Fields.{Fields}
-use Rattle.pm3_types.specs.declared.type_map.Tail.{Tail}
-use Rattle.pm3_types.specs.declared.type_map.Tail.TheVariants.{Empty, Refs, Bytes}
-use Rattle.pm3_types.specs.Layout.{Sheet, PageImage, begins_at, size_at, size_by, tail_words}
-use Rattle.pm3_types.specs.PageForm.{IsReferenceIn, IsTailReference, map_at, tail_at}
+use Rattle.pm3_types.specs.Layout.{Sheet, PageImage, begins_at, size_at}
+use Rattle.pm3_types.specs.PageForm.{IsReferenceIn, map_at, tail_at}
 use Rattle.pm3_types.proofs.Addressing as addressing
+use Rattle.pm3_types.proofs.FormedObjects.{reference_within}
 use Rattle.pm3_copy.specs.Finds.{Finds, Adds}
 use Rattle.pm3_copy.specs.References.{RefersIn, RootsOn, ObjectsOn, RefersOn}
 use Rattle.pm3_copy.proofs.Adding.{adds_none, adds_then, adds_as}
-use Rattle.pm3_copy.proofs.Wholes.{address_of}
-
-tail_within : (tail : Tail) (len k : ℕ) → IsTailReference tail len k → k < tail_words tail len
-tail_within Empty len k is = absurd is
-tail_within Refs len k is = is
-tail_within Bytes len k is = absurd is
-
--- the place of a reference lies in the object
-pub within_size : (o : Option Fields) (len k : ℕ) → IsReferenceIn o len k → 2 + k < size_by o len
-within_size None len k is = absurd is
-within_size (Some map) len k (inl field) = omega (arith, field.0)
-within_size (Some map) len k (inr item) = (let low = tail_within map.tail len (k - map.count) item.1 in omega (arith, item.0))
+use Rattle.pm3_types.proofs.FormedObjects.{address_of}
 
 -- one of the first n places of an object has this word
 pub record RefersBelow (catalog : List Fields) (sheet : Sheet) (s n b : ℕ) : Type 0 where
@@ -57,7 +45,7 @@ module _ (catalog : List Fields) (sheet : Sheet) (s : ℕ) where
   pub places_all : (n : ℕ) (old new : Finds) → n + 2 ≡ size_at catalog sheet s → Adds (RefersBelow catalog sheet s n) old new → Adds (RefersIn catalog sheet s) old new
   places_all n old new size adds =
       adds_as (RefersBelow catalog sheet s n) (RefersIn catalog sheet s) old new adds
-      (λ b there r. record { place = r.place; low = (let low = within_size (map_at catalog sheet s) (tail_at sheet s) r.place r.reference in omega arith); reference = r.reference; is = r.is })
+      (λ b there r. record { place = r.place; low = (let low = reference_within (map_at catalog sheet s) (tail_at sheet s) r.place r.reference in omega arith); reference = r.reference; is = r.is })
       (λ b r. record { place = r.place; reference = r.reference; is = r.is })
 
 -- one of the objects of an image up to an address leads there

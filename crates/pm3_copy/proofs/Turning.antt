@@ -9,6 +9,7 @@ use Rattle.std.specs.List.{Contains}
 use Rattle.std.proofs.lemmas.Bool.{cases_eq, eq-eqb, ne_eqb, false≢true}
 use Rattle.pm3_types.specs.Fields.{Fields}
 use Rattle.pm3_types.specs.Layout.{Sheet, PageImage, begins_at, page_in, word_in}
+use Rattle.pm3_types.specs.PageForm.{is_memory_reference}
 use Rattle.pm3_types.specs.Objects.{RefersTo, RootIs, is_object_at}
 use Rattle.pm3_types.specs.PassSets.{IsReferredTo, BringsAlong, Promoted, Turns, is_pinned}
 use Rattle.pm3_types.specs.Least.Least.{begin, next}
@@ -21,7 +22,8 @@ use Rattle.pm3_copy.specs.Spreading.{IsSpread, AreWhole, AreTurned, LeadsTo, Tur
 use Rattle.pm3_copy.specs.Whole.{IsObjectOf}
 use Rattle.pm3_copy.proofs.Adding.{adds_keeps, adds_then}
 use Rattle.pm3_copy.proofs.WorkLists.{spread_none, spread_more, complete, place_kept, no_fewer}
-use Rattle.pm3_copy.proofs.Wholes.{object_of, object_begins, object_here, object_there, sheet_on, image_on, same_some, page_is, on_objects, start_of}
+use Rattle.pm3_types.proofs.FormedObjects.{page_is, start_of, objects_of}
+use Rattle.pm3_copy.proofs.Wholes.{object_of, object_begins, object_here, object_there, sheet_on, image_on, same_some}
 use Rattle.std.proofs.lemmas.List.{get_or_default}
 use Rattle.std.proofs.lemmas.List.Elements.{Contains-get_or}
 
@@ -116,7 +118,7 @@ module _ (catalog : List Fields) (base : ℕ) (images written : Images) (pinned 
       (page_in base a, object.image, object.on, inr (not_roots object, (a, object.begins, refers_in catalog base written others a b object.image object.on refers)))
     where
       not_roots : (object : IsObjectOf base written a) → object.image.page ≡ 2 → ⊥
-      not_roots object is_ = (on_objects catalog base 16384 object.image (word_in base a) (others.form (page_in base a) object.image object.on) (start_of base object.image a object.begins)).0 is_
+      not_roots object is_ = (objects_of catalog (is_memory_reference base 16384) object.image.page object.image.sheet (word_in base a) (others.form (page_in base a) object.image object.on) (start_of base object.image a object.begins)).0 is_
 
   pub referred_from : (b : ℕ) → IsReferredTo catalog base (before_of images written pinned) b → IsObjectOf base images b × RefersFrom catalog base written b
   referred_from b (of_space, by) = (object_there catalog base 16384 images b sound of_space, from_by b by)

@@ -1,17 +1,19 @@
 -- Where the objects of images lie, and that those of sound images lie whole.
-use Rattle.std.proofs.Common.{◌≡◌, ◌≢◌, ℕ, zero, suc, ◌+◌, ◌*◌, ◌^◌, ◌<◌, ◌≤◌, ◌==◌, ◌&&◌, true, false, ltb, leb, not, List, replicate, Option, None, Some, is_some, refl, sym, ap, subst, ◌∙◌, arith, inl, inr}
-use Rattle.std.proofs.lemmas.Bool.{cases_eq, and_parts, and_from, eqb-true, eq-eqb, ltb-true, leb-true, false_from_ne_true, false≢true}
-use Rattle.std.specs.Prelude.{slice_index, slice_index_or}
+use Rattle.std.proofs.Common.{◌≡◌, ℕ, ◌+◌, ◌*◌, ◌<◌, ◌≤◌, true, not, List, Option, None, Some, is_some, refl, sym, ap, subst, ◌∙◌, arith}
+use Rattle.std.proofs.lemmas.Bool.{and_parts, and_from, false≢true}
+use Rattle.std.specs.Prelude.{slice_index}
 use Rattle.std.specs.FinMap as map
 use Rattle.pm3_types.specs.Fields.{Fields}
-use Rattle.pm3_types.specs.Layout.{Sheet, PageImage, is_start, is_unmoved, size_by, is_forwarded, is_address, page_in, word_in, begins_at}
+use Rattle.pm3_types.specs.Layout.{Sheet, PageImage, is_start, is_unmoved, is_forwarded, is_address, page_in, word_in, begins_at}
 use Rattle.pm3_types.specs.Objects.{is_object_at, is_unmoved_on}
-use Rattle.pm3_types.specs.PageForm.{IsSound, HasObjects, map_at, tail_at, is_head_of, is_memory_reference}
+use Rattle.pm3_types.specs.PageForm.{IsSound, is_memory_reference}
 use Rattle.pm3_types.proofs.Addressing as addressing
+use Rattle.pm3_types.proofs.FormedObjects.{address_of, page_is, start_of, begins, whole_start}
 use Rattle.pm3_page.specs.PageMap.{Images, IsAtHome}
 use Rattle.pm3_page.specs.PageSheets.{AreSoundPages, sheet_in, sheets_of}
 use Rattle.pm3_page.proofs.SheetsOf.{get-sheets_of}
-use Rattle.pm3_copy.specs.Whole.{IsWhole, IsObjectOf}
+use Rattle.pm3_types.specs.Whole.{IsWhole}
+use Rattle.pm3_copy.specs.Whole.{IsObjectOf}
 
 pub some_of : {A : Type 0} (o : Option A) → is_some o ≡ true → (x : A) × (o ≡ Some x)
 some_of None is = absurd (false≢true is)
@@ -23,19 +25,6 @@ same_some x y e = cc
 pub none_some : {A : Type 0} (x : A) (P : Type 0) → ◌≡◌ {A = Option A} None (Some x) → P
 none_some x P e = cc
 
--- an object begins at an address of its page
-pub address_of : (base : ℕ) (image : PageImage) (a : ℕ) → begins_at base image a ≡ true → is_address base a ≡ true
-address_of base image a is = (and_parts (is_address base a) (page_in base a == image.page) (and_parts (is_address base a && (page_in base a == image.page)) (is_start image.sheet (word_in base a)) is).0).0
-
-pub page_is : (base : ℕ) (image : PageImage) (a : ℕ) → begins_at base image a ≡ true → page_in base a ≡ image.page
-page_is base image a is = eqb-true (page_in base a) image.page (and_parts (is_address base a) (page_in base a == image.page) (and_parts (is_address base a && (page_in base a == image.page)) (is_start image.sheet (word_in base a)) is).0).1
-
-pub start_of : (base : ℕ) (image : PageImage) (a : ℕ) → begins_at base image a ≡ true → is_start image.sheet (word_in base a) ≡ true
-start_of base image a begins = (and_parts (is_address base a && (page_in base a == image.page)) (is_start image.sheet (word_in base a)) begins).1
-
-pub begins : (base : ℕ) (image : PageImage) (a : ℕ) → is_address base a ≡ true → page_in base a ≡ image.page → is_start image.sheet (word_in base a) ≡ true → begins_at base image a ≡ true
-begins base image a is page start = and_from (is_address base a && (page_in base a == image.page)) (is_start image.sheet (word_in base a)) (and_from (is_address base a) (page_in base a == image.page) is (eq-eqb (page_in base a) image.page page)) start
-
 -- the addresses of a page
 pub above_page : (base a : ℕ) → is_address base a ≡ true → base + 4096 * page_in base a ≤ a
 unfolding page_in
@@ -45,58 +34,9 @@ pub below_page : (base a : ℕ) → is_address base a ≡ true → a < base + 40
 unfolding page_in
 below_page base a is = (let low = addressing.above_base base a is in omega arith)
 
-blank_starts : (n s : ℕ) → slice_index_or (replicate n false) s false ≡ false
-blank_starts zero s = refl
-blank_starts (suc n) zero = refl
-blank_starts (suc n) (suc s) = blank_starts n s
-
--- an object begins on a page of objects
-pub on_objects : (catalog : List Fields) (base pages : ℕ) (image : PageImage) (s : ℕ) → IsSound catalog base pages image → is_start image.sheet s ≡ true
-    → (image.page ≢ 2) × HasObjects catalog (is_memory_reference base pages) image.page image.sheet
-on_objects catalog base pages image s form starts = elim (cases_eq image.page 2) [
-  | inl roots ↦ absurd (false≢true (sym ((form.roots roots).empty s) ∙ starts))
-  | inr apart ↦ (
-    apart,
-    elim (form.objects apart) [
-      | inl blank ↦ absurd (false≢true (sym (ap (λ sheet. is_start sheet s) blank ∙ blank_starts 512 s) ∙ starts))
-      | inr objects ↦ objects
-    ],
-  )
-]
-
-some_map : (o : Option Fields) (len : ℕ) → 2 ≤ size_by o len → (map : Fields) × (o ≡ Some map)
-some_map None len big = absurd (omega arith)
-some_map (Some map) len big = (map, refl)
-
-low_head : (head : ℕ) → head < 2 ^ 48 → is_forwarded head ≡ false
-unfolding is_forwarded
-low_head head low = false_from_ne_true (leb (2 ^ 63) head) (λ e. let high : 2 ^ 63 ≤ head = leb-true (2 ^ 63) head e in omega arith)
-
-head_low : (map : Fields) (head : ℕ) → is_head_of map head ≡ true → head < 2 ^ 48
-unfolding is_head_of
-head_low map head e = ltb-true head (2 ^ 48) (and_parts (ltb head (2 ^ 48)) _ e).0
-
 -- an object of a sound image lies whole
-pub whole_start : (catalog : List Fields) (base pages : ℕ) (image : PageImage) (s : ℕ) → IsSound catalog base pages image → is_start image.sheet s ≡ true → IsWhole catalog image.sheet s
-whole_start catalog base pages image s form starts =
-    let objects = (on_objects catalog base pages image s form starts).1 in
-    let whole = objects.laid.whole s starts in
-    let fields = some_map (map_at catalog image.sheet s) (tail_at image.sheet s) whole.1 in
-    let head = objects.heads s fields.0 starts fields.1 in
-    record {
-      fields = fields.0;
-      of = fields.1;
-      begins = starts;
-      low = whole.0;
-      size = whole.1;
-      within = omega (arith, whole.2, objects.laid.end.1);
-      unmoved = low_head (slice_index image.sheet.words s) (head_low fields.0 (slice_index image.sheet.words s) head);
-      head = head;
-      name = objects.names s starts;
-    }
-
 pub whole_at : (catalog : List Fields) (base pages : ℕ) (image : PageImage) (a : ℕ) → IsSound catalog base pages image → begins_at base image a ≡ true → IsWhole catalog image.sheet (word_in base a)
-whole_at catalog base pages image a form is = whole_start catalog base pages image (word_in base a) form (start_of base image a is)
+whole_at catalog base pages image a form is = whole_start catalog (is_memory_reference base pages) image.page image.sheet (word_in base a) form (start_of base image a is)
 
 -- the sheet of an image that is there
 pub sheet_on : (images : Images) (p : ℕ) (image : PageImage) → map.get images p ≡ Some image → map.get (sheets_of images) p ≡ Some image.sheet

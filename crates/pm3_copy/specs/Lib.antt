@@ -3,3 +3,10 @@ pub mod Whole
 pub mod References
 pub mod Spreading
 pub mod Planning
+pub mod Tables
+pub mod Copies
+pub mod Renaming
+pub mod Fresh
+pub mod Moving
+pub mod Sending
+pub mod CarriedOut

@@ -8,7 +8,8 @@ ghost use Rattle.pm3_page.specs.PageMap.{IsAtHome};
 ghost use Rattle.pm3_page.specs.PageSheets.{AreSoundPages};
 ghost use Rattle.pm3_copy.specs.Finds.{Adds};
 ghost use Rattle.pm3_copy.specs.References.{RefersIn, RootsOn, ObjectsOn, RefersOn, RefersFrom};
-ghost use Rattle.pm3_copy.specs.Whole.{IsWhole, IsObjectOf};
+ghost use Rattle.pm3_types.specs.Whole.{IsWhole};
+ghost use Rattle.pm3_copy.specs.Whole.{IsObjectOf};
 
 use crate::finds::Found;
 use crate::objects::{is_reference_place, map_of, size_of};

@@ -3,10 +3,11 @@
 //!
 //! The layer above may rely on three things. `plan` finds exactly the two sets of a pass: what turns persistent, the least set
 //! that holds what the written images refer to and is closed under references and under the other objects of a pinned page, and
-//! what stays in the space, the least set that holds the other objects of pinned pages and what these refer to. The plan has
-//! their members off the pinned pages in the order of their addresses, the pinned pages that turn persistent, the pages that
-//! are given up, and the numbers of pages that the moves want, which are exact and have a bound. No plan is carried out here
-//! yet; the laws on what images show after that are `pass_law` and `standing_law` of `pm3_types`.
+//! what stays in the space, the least set that holds the other objects of pinned pages and what these refer to; the numbers of
+//! pages that it wants are exact and have a bound. `carry_out` moves each of their objects off the pinned pages once, to the place
+//! that the order of addresses and the fresh pages tell, lets all references follow, takes no memory, and leaves no other object
+//! and exactly the pages that `IsCarriedOut` names. So `pass_law` of `pm3_types` holds of the images before and after: they show
+//! the same records, less the dead ones.
 #![tactic(auto)]
 
 // What is found, and what it leads to.
@@ -22,9 +23,22 @@ mod wanted;
 
 // The plan.
 mod planning;
-#[cfg(test)]
-mod planning_tests;
 mod plans;
 
+// Carrying it out.
+mod carrying;
+mod copying;
+mod leaving;
+mod moving;
+#[cfg(test)]
+mod pass_tests;
+#[cfg(test)]
+mod sample_pages;
+mod sending;
+mod tables;
+mod update_pages;
+mod updating;
+
+pub use carrying::{Report, carry_out};
 pub use planning::plan;
 pub use plans::Plan;

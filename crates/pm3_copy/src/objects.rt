@@ -5,7 +5,8 @@ ghost use Rattle.pm3_types.specs.Layout.{begins_at, is_address, page_in, word_in
 ghost use Rattle.pm3_types.specs.PageForm.{IsReferenceIn, map_at, tail_at};
 ghost use Rattle.pm3_types.specs.PassMoves.{IsListOf};
 ghost use Rattle.pm3_page.specs.PageMap.{IsAtHome};
-ghost use Rattle.pm3_copy.specs.Whole.{IsWhole, IsObjectOf};
+ghost use Rattle.pm3_types.specs.Whole.{IsWhole};
+ghost use Rattle.pm3_copy.specs.Whole.{IsObjectOf};
 
 use pm3_core::PAGE_BYTES;
 use pm3_page::{Addr, BASE, Image, PageNo, Pages};

@@ -10,6 +10,7 @@ ghost use Rattle.pm3_copy.specs.Spreading.{before_of, AreTurned, Frees};
 
 use crate::finds::Found;
 use crate::keeping::keep;
+use crate::leaving::Leaving;
 use crate::movers::movers;
 use crate::objects::objects_of;
 use crate::plans::Plan;
@@ -43,13 +44,16 @@ pub fn plan(
     let persistent = pages_for(catalog, volatile, &promoted);
     let staying = pages_for(catalog, volatile, &kept);
     let freed = unpinned(alloc, volatile, pinned)?;
+    let moved = (promoted.len() + kept.len()) as u32;
+    let going = Leaving::of(promoted)?;
+    let left = Leaving::of(kept)?;
     Ok(Plan {
         persistent,
         volatile: staying,
         pins: pinned.len(),
-        moved: (promoted.len() + kept.len()) as u32,
-        promoted,
-        kept,
+        moved,
+        promoted: going,
+        kept: left,
         turned,
         freed,
     })

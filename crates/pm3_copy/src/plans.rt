@@ -1,5 +1,6 @@
 //! The plan of a pass.
-use pm3_page::{Addr, PageSet};
+use crate::leaving::Leaving;
+use pm3_page::PageSet;
 use std::marker::Model;
 
 /// The plan of a pass, as `plan` makes it: how many pages it wants, and how many objects move.
@@ -13,8 +14,8 @@ pub struct Plan {
     pub pins: u32,
     /// The number of objects that move.
     pub moved: u32,
-    pub(crate) promoted: Vec<Addr>,
-    pub(crate) kept: Vec<Addr>,
+    pub(crate) promoted: Leaving,
+    pub(crate) kept: Leaving,
     pub(crate) turned: PageSet,
     pub(crate) freed: PageSet,
 }
@@ -31,8 +32,8 @@ impl Model for Plan {
       volatile = p.volatile;
       pins = p.pins;
       moved = p.moved;
-      promoted = p.promoted.items;
-      kept = p.kept.items;
+      promoted = p.promoted;
+      kept = p.kept;
       turned = p.turned;
       freed = p.freed;
     } };

@@ -10,7 +10,7 @@ use pm3_page::{Addr, BASE, Pages};
 use pm3_types::Catalog;
 
 /// The number of words of a page.
-const PAGE_WORDS: u32 = 512;
+pub(crate) const PAGE_WORDS: u32 = 512;
 
 /// The number of pages that these objects take, placed one behind another in this order, each on the next page where it doesn't
 /// fit behind the last.

@@ -3,7 +3,8 @@ use Rattle.pm3_core.specs.declared.naming.TheConstants.{BASE}
 use Rattle.pm3_types.specs.Layout.{word_in}
 use Rattle.pm3_copy.specs.References.{RefersIn, ObjectsOn}
 use Rattle.pm3_copy.proofs.References.{objects_none, objects_more, objects_all}
-use Rattle.pm3_copy.proofs.Wholes.{address_of, page_is, below_page, whole_at}
+use Rattle.pm3_types.proofs.FormedObjects.{address_of, page_is}
+use Rattle.pm3_copy.proofs.Wholes.{below_page, whole_at}
 use Rattle.pm3_copy.proofs.finding.find_from_objects.Goals as goal
 
 pub loop-next-init : goal.loop-next-init

@@ -2,7 +2,8 @@ use Rattle.std.proofs.Common.{◌≡◌, ◌∙◌, true, refl, ap, arith, lit<}
 use Rattle.pm3_core.specs.declared.naming.TheConstants.{BASE}
 use Rattle.pm3_types.specs.Layout.{begins_at}
 use Rattle.pm3_copy.proofs.References.{objects_none, objects_more, objects_all}
-use Rattle.pm3_copy.proofs.Wholes.{address_of, page_is, below_page}
+use Rattle.pm3_types.proofs.FormedObjects.{address_of, page_is}
+use Rattle.pm3_copy.proofs.Wholes.{below_page}
 use Rattle.pm3_copy.proofs.finding.find_objects.Goals as goal
 
 pub loop-next-init : goal.loop-next-init

@@ -1,7 +1,8 @@
 use Rattle.std.proofs.Common.{arith, lit<}
 use Rattle.pm3_core.specs.declared.naming.TheConstants.{BASE}
 use Rattle.pm3_copy.proofs.Collecting.{added_none, added_more}
-use Rattle.pm3_copy.proofs.Wholes.{address_of, page_is, below_page}
+use Rattle.pm3_types.proofs.FormedObjects.{address_of, page_is}
+use Rattle.pm3_copy.proofs.Wholes.{below_page}
 use Rattle.pm3_copy.proofs.objects.add_objects.Goals as goal
 
 pub loop-next-init : goal.loop-next-init

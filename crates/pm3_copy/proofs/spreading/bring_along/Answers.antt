@@ -7,7 +7,8 @@ use Rattle.pm3_copy.specs.Finds.{Adds}
 use Rattle.pm3_copy.specs.Spreading.{TurnsPage}
 use Rattle.pm3_copy.proofs.Turning.{brought, whole_after}
 use Rattle.pm3_copy.proofs.Adding.{adds_keeps}
-use Rattle.pm3_copy.proofs.Wholes.{whole_at, object_of, object_begins, page_is}
+use Rattle.pm3_types.proofs.FormedObjects.{page_is}
+use Rattle.pm3_copy.proofs.Wholes.{whole_at, object_of, object_begins}
 use Rattle.pm3_copy.proofs.spreading.bring_along.Goals as goal
 
 pub find_referred-requires-clause-whole : goal.find_referred-requires-clause-whole

@@ -1,0 +1,12 @@
+use Rattle.std.proofs.Common.{◌≡◌, Some}
+use Rattle.pm3_core.specs.declared.naming.TheConstants.{BASE}
+use Rattle.pm3_types.specs.Layout.{word_in}
+use Rattle.pm3_copy.specs.Renaming.{IsRenamed, IsPlaceBelow}
+use Rattle.pm3_copy.specs.Tables.{follows}
+use Rattle.pm3_copy.proofs.updating.update_object.Given as goal
+
+abbrev pub invariant-loop-place : goal.invariant-loop-place
+invariant-loop-place l = record {
+  page : l.image.page ≡ l.fn.image.page;
+  sheet : IsRenamed (IsPlaceBelow (Some l.map) l.tail (word_in BASE l.at) l.place) (follows l.tables) l.fn.image.sheet l.image.sheet;
+}
