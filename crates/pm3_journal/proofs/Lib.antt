@@ -1,5 +1,5 @@
 mod Breaking
-mod Departing
+pub mod Departing
 mod Continuing
 mod Entering
 mod Faulting

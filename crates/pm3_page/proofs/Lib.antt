@@ -17,3 +17,4 @@ mod FileForms
 mod Faulty
 mod SameBits
 pub mod SheetsOf
+pub mod ReadBounds

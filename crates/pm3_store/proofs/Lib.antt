@@ -1,0 +1,10 @@
+pub mod Within
+pub mod Carrying
+pub mod Moving
+pub mod Recording
+pub mod Crashing
+pub mod Roots
+pub mod Imagined
+pub mod Fresh
+pub mod Pictures
+pub mod Opening
