@@ -1,16 +1,41 @@
-//! The twelve classes of OO7 as a catalog.
+//! The twelve classes of OO7 as a catalog, the sizes of designs, and what designs and jobs are.
 //!
-//! The layer above may rely on one thing. The catalog that `catalog` makes is `schema` of specs/: the list of the twelve
+//! The layer above may rely on three things. The catalog that `catalog` makes is `schema` of specs/: the list of the twelve
 //! classes, each with the number of its fields, the set of those that are references, and its tail, under the number that is
-//! its place in the list. It takes no memory, and nothing else is ever answered.
+//! its place in the list; it takes no memory. `params` is the table of the five sizes. The definitions by which the crates above
+//! speak of designs (`IsDesign`), of their readings and of what each job answers and leaves (`job`) stand in specs/, with their
+//! laws in the functions of `laws`, and are tried on two designs in `small` and `worked`.
 #![tactic(auto)]
 
 ghost use Rattle.std.specs.Prelude.{◌≡◌, ◌^◌, ◌<◌, ◌≤◌, [], ◌∷◌, ◌++◌, length, IsOkAnd};
 ghost use Rattle.oo7_schema.specs.Schema.{class, schema};
 
+mod commands;
+mod jobs;
+mod laws;
+mod parameters;
+mod sizes;
+mod small;
+mod worked;
+
+pub use commands::{worked_lines, worked_lists, worked_reports, worked_rooms};
+pub use jobs::{Extent, Job, Query, Walk};
+pub use laws::{
+    builds, changed_parts, changes_stay, counts, designs_closed, entries, job_lines,
+    jobs_by_reading, readings, small_design, within_room,
+};
+pub use parameters::params;
 pub use pm3_types::Memory;
 use pm3_types::{Catalog, Tail, TypeMap};
+pub use sizes::{Params, Size};
+pub use small::{
+    small_dates, small_deletion, small_insertion, small_queries, small_swaps, small_traversals,
+};
 use std::alloc::Global;
+pub use worked::{
+    first_composite, reference_draw, tiny_changes, tiny_deletion, tiny_parts, tiny_queries,
+    tiny_traversals,
+};
 
 /// The catalog of OO7, each class under its number.
 pub fn catalog(alloc: Global) -> Result<Catalog, Memory>
@@ -59,6 +84,16 @@ mod tests {
         (96, [3, 0, 0, 0, 4, 0, 0, 0]),
         (104, [0; 8]),
     ];
+
+    #[test]
+    fn the_small_sizes_differ_in_their_connections(rt: HostRuntime) -> Result<(), Fail> {
+        let sizes = [Size::Small, Size::Small6, Size::Small9];
+        for (size, connections) in sizes.into_iter().zip([3, 6, 9]) {
+            assert_eq!(rt; params(size).connections, connections);
+            assert_eq!(rt; params(size).composites, 500);
+        }
+        Ok(())
+    }
 
     #[test]
     fn page_1_of_the_schema_is_as_the_format_says(rt: HostRuntime) -> Result<(), Fail> {
