@@ -1,0 +1,15 @@
+use Rattle.std.proofs.Common.{◌≡◌, None, take}
+use Rattle.pm3_core.specs.declared.naming.TheConstants.{BASE}
+use Rattle.pm3_types.specs.Numbering.{meet}
+use Rattle.pm3_types.specs.Shown as shown
+use Rattle.oo7_dump.specs.Held.{AreAmong, AreHeld}
+use Rattle.oo7_dump.specs.Loads.{Loads}
+use Rattle.oo7_dump.specs.Raw.{raw_at}
+use Rattle.oo7_dump.proofs.meeting.meet_all.Given as goal
+
+abbrev pub invariant-loop-name : goal.invariant-loop-name
+invariant-loop-name g l = record {
+  loads : Loads g.R.Reader l.catalog l.pages l.initial.reader l.reader l.initial.images.images l.images.images None;
+  held : AreHeld l.images.images l.met;
+  met : (all : shown.Images) → AreAmong l.images.images all → l.met ≡ meet (raw_at l.catalog BASE all) l.initial.met (take l.name-index l.names);
+}

@@ -1,0 +1,8 @@
+use Rattle.std.proofs.Common.{◌≡◌, ◌++◌, take}
+use Rattle.std.specs.Prelude.{codes}
+use Rattle.std.specs.List.{flat_map}
+use Rattle.pm3_types.specs.Dump.{name_text}
+use Rattle.oo7_dump.proofs.printing.put_references.Given as goal
+
+abbrev pub invariant-loop-item : goal.invariant-loop-item
+invariant-loop-item l = l.text ≡ l.initial.text ++ flat_map (λ n. codes " @" ++ name_text l.met n) (take l.item-index l.items)

@@ -1,0 +1,6 @@
+pub mod Raw
+pub mod ByAddress
+pub mod Numbers
+pub mod Held
+pub mod Loads
+pub mod Lost
