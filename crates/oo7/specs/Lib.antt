@@ -1,4 +1,6 @@
 pub mod Answer
-pub mod Creation
+pub mod Checkpoints
+pub mod Dumps
+pub mod Opening
 pub mod Output
 pub mod Words

@@ -5,7 +5,7 @@ use Rattle.std.specs.List.{list_all}
 use Rattle.std.specs.Char.{is_ascii_digit}
 use Rattle.std.specs.Str.Parse.{digits_value}
 use Rattle.oo7.specs.declared.words.Command.{Command}
-use Rattle.oo7.specs.declared.words.Command.TheVariants.{Create, NotYet}
+use Rattle.oo7.specs.declared.words.Command.TheVariants.{Create, Checkpoint, Dump, NotYet}
 
 -- the bytes of each word
 abbrev pub texts : List (String Global) → List (List ℕ)
@@ -28,12 +28,20 @@ create_of [] = None
 create_of (pages ∷ []) = option_map Create (number_of 16 16384 pages)
 create_of (pages ∷ more ∷ words) = None
 
+-- a command of one word
+abbrev pub alone : Command → List (List ℕ) → Option Command
+alone command [] = Some command
+alone command (more ∷ words) = None
+
 -- the commands that the program doesn't have yet
 abbrev pub is_later : List ℕ → Bool
-is_later word = bytes_eq word (codes "build") || bytes_eq word (codes "run") || bytes_eq word (codes "dump") || bytes_eq word (codes "checkpoint") || bytes_eq word (codes "drill")
+is_later word = bytes_eq word (codes "build") || bytes_eq word (codes "run") || bytes_eq word (codes "drill")
 
 -- the command that the words after the program's name are, if they are one
 abbrev pub command_of : List (List ℕ) → Option Command
 command_of [] = None
 command_of (word ∷ words) =
-    if bytes_eq word (codes "create") then create_of words else if is_later word then Some NotYet else None
+    if bytes_eq word (codes "create") then create_of words
+    else if bytes_eq word (codes "checkpoint") then alone Checkpoint words
+    else if bytes_eq word (codes "dump") then alone Dump words
+    else if is_later word then Some NotYet else None

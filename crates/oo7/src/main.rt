@@ -9,17 +9,26 @@ ghost use Rattle.std.specs.Vec.Iter.{into_iter_items};
 ghost use Rattle.pm3_disk.specs.Paths.{path_of};
 
 // From the words to the answer.
+#[cfg(test)]
+mod checkpoint_tests;
+#[cfg(test)]
+mod dump_tests;
 mod gate;
 mod outside;
+mod performing;
 mod refusal;
 mod report;
+#[cfg(test)]
+mod samples;
+#[cfg(test)]
+mod tests;
 mod top;
 mod words;
 
-// What `create` makes.
-mod store;
-#[cfg(test)]
-mod tests;
+// Commands on a store.
+mod checkpointing;
+mod dumping;
+mod opening;
 
 use crate::gate::OpenGate;
 use crate::outside::Outside;

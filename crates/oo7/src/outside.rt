@@ -2,7 +2,7 @@
 ghost use Rattle.std.specs.Prelude.{◌≡◌, ◌↔◌, drop, None, Some};
 ghost use Rattle.std.specs.Process.{exit_status};
 ghost use Rattle.oo7.specs.Answer.{Answers};
-ghost use Rattle.oo7.specs.Creation.{Files};
+ghost use Rattle.pm3_store.specs.Creation.{Files};
 ghost use Rattle.oo7.specs.Words.{command_of, texts};
 
 use crate::gate::Gate;

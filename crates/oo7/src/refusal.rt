@@ -1,6 +1,9 @@
 //! Why a command is refused, and how that is told.
-ghost use Rattle.std.specs.Prelude.{◌≡◌};
-ghost use Rattle.oo7.specs.Output.{refused_status, fault_line};
+ghost use Rattle.std.specs.Prelude.{◌≡◌, ◌≤◌, length};
+ghost use Rattle.oo7.specs.Output.{refused_status, fault_line, numbered};
+
+use arrayvec::ArrayString;
+use itoa::Buffer;
 
 /// Why a command is refused.
 #[derive(Clone, Copy, Debug, PartialEq, Eq)]
@@ -11,6 +14,10 @@ pub enum Refusal {
     PageFault,
     /// The journal failed.
     JournalFault,
+    /// The page file isn't that of a store of this program, from this byte on.
+    PageDamaged { offset: u64 },
+    /// The journal isn't that of a store, from this byte on.
+    JournalDamaged { offset: u64 },
     /// There is no memory left.
     Memory,
     /// There is a page file already.
@@ -28,23 +35,46 @@ impl Refusal {
             Refusal::Usage => 2,
             Refusal::PageFault => 3,
             Refusal::JournalFault => 4,
+            Refusal::PageDamaged { .. } | Refusal::JournalDamaged { .. } => 5,
             Refusal::Memory => 8,
             Refusal::Exists => 9,
             Refusal::Later => 14,
         }
     }
 
-    /// The line that the program prints.
-    pub fn line(self) -> &'static [u8]
-        ensures { result.now ≡ fault_line self }
+    /// The line that the program prints. It takes no memory.
+    pub fn line(self) -> ArrayString<40>
+        ensures { result.bytes ≡ fault_line self }
     {
         match self {
-            Refusal::Usage => b"fault 2 usage\n",
-            Refusal::PageFault => b"fault 3 pages\n",
-            Refusal::JournalFault => b"fault 4 journal\n",
-            Refusal::Memory => b"fault 8 memory\n",
-            Refusal::Exists => b"fault 9 exists\n",
-            Refusal::Later => b"fault 14 later\n",
+            Refusal::Usage => text("fault 2 usage\n"),
+            Refusal::PageFault => text("fault 3 pages\n"),
+            Refusal::JournalFault => text("fault 4 journal\n"),
+            Refusal::PageDamaged { offset } => with_number("fault 5 pages ", offset),
+            Refusal::JournalDamaged { offset } => with_number("fault 5 journal ", offset),
+            Refusal::Memory => text("fault 8 memory\n"),
+            Refusal::Exists => text("fault 9 exists\n"),
+            Refusal::Later => text("fault 14 later\n"),
         }
     }
+}
+
+fn text(words: &str) -> ArrayString<40>
+    requires { length words.now ≤ 40 }
+    ensures { result.bytes ≡ words.now }
+{
+    let mut line = ArrayString::new();
+    line.push_str(words);
+    line
+}
+
+/// These words and a number behind them, as a line.
+fn with_number(words: &str, number: u64) -> ArrayString<40>
+    requires { length words.now ≤ 19 }
+    ensures { result.bytes ≡ numbered words.now number }
+{
+    let mut line = text(words);
+    line.push_str(Buffer::new().format(number));
+    line.push('\n');
+    line
 }

@@ -9,30 +9,32 @@ use std::process::ExitCode;
 use std::test::Fail;
 use std::thread::Threads;
 
-/// What a call is made on: the bytes of the page file, and the numbers of the calls that fail.
+/// What a call is made on: the bytes of the two files, and the number of the call that fails on each device.
 #[derive(Clone, Copy)]
-struct Setting<'a> {
-    pages: &'a [u8],
-    pages_fails: &'a [u32],
-    journal_fails: &'a [u32],
-    sink_fails: &'a [u32],
+pub(crate) struct Setting<'a> {
+    pub(crate) pages: &'a [u8],
+    pub(crate) journal: &'a [u8],
+    pub(crate) pages_fails: Option<u32>,
+    pub(crate) journal_fails: Option<u32>,
+    pub(crate) sink_fails: Option<u32>,
 }
 
-/// Devices on which no call fails, and an empty page file.
-const SOUND: Setting<'static> = Setting {
+/// Devices on which no call fails, and two empty files.
+pub(crate) const SOUND: Setting<'static> = Setting {
     pages: &[],
-    pages_fails: &[],
-    journal_fails: &[],
-    sink_fails: &[],
+    journal: &[],
+    pages_fails: None,
+    journal_fails: None,
+    sink_fails: None,
 };
 
 /// What a call leaves.
 #[derive(Drop)]
-struct Ran {
-    status: u8,
-    pages: MemoryDisk,
-    journal: MemoryDisk,
-    sink: MemorySink,
+pub(crate) struct Ran {
+    pub(crate) status: u8,
+    pub(crate) pages: MemoryDisk,
+    pub(crate) journal: MemoryDisk,
+    pub(crate) sink: MemorySink,
 }
 
 impl Ran {
@@ -53,19 +55,28 @@ fn words_of(alloc: Global, line: &str) -> Result<Vec<String>, Fail> {
     Ok(words)
 }
 
-fn run<R: Threads + Sync + AllocGlobal>(
+/// A list of the number, if there is one.
+fn listed(alloc: Global, call: Option<u32>) -> Result<Vec<u32>, Fail> {
+    let mut calls = Vec::new(alloc);
+    if let Some(call) = call {
+        calls.push(call)?;
+    }
+    Ok(calls)
+}
+
+pub(crate) fn run<R: Threads + Sync + AllocGlobal>(
     rt: &R,
     line: &str,
     setting: Setting<'_>,
 ) -> Result<Ran, Fail> {
     let alloc = rt.alloc();
     let words = words_of(alloc, line)?;
-    let pages_fails = setting.pages_fails.to_vec(alloc)?;
+    let pages_fails = listed(alloc, setting.pages_fails)?;
     let pages = MemoryDisk::new(alloc, setting.pages.to_vec(alloc)?, pages_fails);
-    let journal_fails = setting.journal_fails.to_vec(alloc)?;
-    let journal = MemoryDisk::new(alloc, Vec::new(alloc), journal_fails);
+    let journal_fails = listed(alloc, setting.journal_fails)?;
+    let journal = MemoryDisk::new(alloc, setting.journal.to_vec(alloc)?, journal_fails);
     let mut source = MemorySource::new(Vec::new(alloc), Vec::new(alloc));
-    let mut sink = MemorySink::new(alloc, setting.sink_fails.to_vec(alloc)?);
+    let mut sink = MemorySink::new(alloc, listed(alloc, setting.sink_fails)?);
     let words = words.as_slice();
     let done = oo7(
         rt,
@@ -142,6 +153,9 @@ fn other_words_are_refused_before_any_call(rt: HostRuntime) -> Result<(), Fail> 
         "help",
         "creat 16",
         "create --help",
+        "checkpoint 16",
+        "checkpoint --help",
+        "dump 16",
     ] {
         let ran = run(&rt, line, SOUND)?;
         assert_eq!(rt; ran.status, 2, "{line}");
@@ -149,12 +163,10 @@ fn other_words_are_refused_before_any_call(rt: HostRuntime) -> Result<(), Fail> 
         assert!(rt; ran.is_unused(), "{line}");
     }
     for line in [
-        "dump",
         "build tiny 7",
         "run --workers 1",
-        "checkpoint",
         "drill 7 --workers 3",
-        "dump 16",
+        "build",
     ] {
         let ran = run(&rt, line, SOUND)?;
         assert_eq!(rt; ran.status, 14, "{line}");
@@ -194,7 +206,7 @@ fn each_call_that_fails_is_told(rt: HostRuntime) -> Result<(), Fail> {
             &rt,
             "create 16",
             Setting {
-                pages_fails: &[call],
+                pages_fails: Some(call),
                 ..SOUND
             },
         )?;
@@ -215,7 +227,7 @@ fn each_call_that_fails_is_told(rt: HostRuntime) -> Result<(), Fail> {
             &rt,
             "create 16",
             Setting {
-                journal_fails: &[call],
+                journal_fails: Some(call),
                 ..SOUND
             },
         )?;
@@ -228,8 +240,8 @@ fn each_call_that_fails_is_told(rt: HostRuntime) -> Result<(), Fail> {
         assert_eq!(rt; ran.pages.bytes().len(), 0, "call {call}");
     }
     let after = Setting {
-        pages_fails: &[PAGE_FILE_CALLS],
-        journal_fails: &[JOURNAL_CALLS],
+        pages_fails: Some(PAGE_FILE_CALLS),
+        journal_fails: Some(JOURNAL_CALLS),
         ..SOUND
     };
     assert_eq!(rt; run(&rt, "create 16", after)?.status, 0);
@@ -242,7 +254,7 @@ fn a_sink_that_fails_has_a_front_of_the_line(rt: HostRuntime) -> Result<(), Fail
         &rt,
         "create 15",
         Setting {
-            sink_fails: &[0],
+            sink_fails: Some(0),
             ..SOUND
         },
     )?;
@@ -304,7 +316,7 @@ fn a_page_file_whose_length_cannot_be_read_is_left_alone(rt: HostRuntime) -> Res
         "create 64",
         Setting {
             pages: &[7],
-            pages_fails: &[0],
+            pages_fails: Some(0),
             ..SOUND
         },
     )?;

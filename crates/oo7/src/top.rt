@@ -1,14 +1,12 @@
 //! The call that the program makes.
-ghost use Rattle.std.specs.Prelude.{◌≡◌, ◌↔◌, ◌≤◌, None, Some, OnOk};
-ghost use Rattle.oo7.specs.Answer.{AreOnward, AreSynced, Answers, Completes, HasReason, Makes, Spares};
+ghost use Rattle.std.specs.Prelude.{◌≡◌, ◌↔◌, None, Some};
+ghost use Rattle.oo7.specs.Answer.{Answers, Completes, Makes, Reads, Spares, Stops};
 ghost use Rattle.oo7.specs.Words.{command_of, texts};
 
 use crate::gate::Gate;
-use crate::refusal::Refusal;
+use crate::performing::{Performed, perform};
 use crate::report::report;
-use crate::store;
-use crate::store::CreateFault;
-use crate::words::{Command, read_command};
+use crate::words::Command;
 use pm3_disk::{Disk, Sink, Source};
 use std::alloc::Global;
 use std::thread::Threads;
@@ -27,8 +25,8 @@ pub fn oo7<R: Threads + Sync, D: Disk + Send, S: Source, K: Sink, G: Gate>(
     _rt: &R,
     alloc: Global,
     words: &[String],
-    mut pages: D,
-    mut journal: D,
+    pages: D,
+    journal: D,
     source: &mut S,
     sink: &mut K,
     _gate: &G,
@@ -42,49 +40,18 @@ where
     ensures completes { Completes D.Disk (record { command = command_of (texts words.now); before = record { pages = pages; journal = journal }; after = record { pages = result.pages; journal = result.journal }; status = result.status }) }
     ensures spares { Spares D.Disk (record { command = command_of (texts words.now); before = record { pages = pages; journal = journal }; after = record { pages = result.pages; journal = result.journal }; status = result.status }) }
     ensures makes { Makes D.Disk (record { command = command_of (texts words.now); before = record { pages = pages; journal = journal }; after = record { pages = result.pages; journal = result.journal }; status = result.status }) }
+    ensures reads { Reads D.Disk (record { command = command_of (texts words.now); before = record { pages = pages; journal = journal }; after = record { pages = result.pages; journal = result.journal }; status = result.status }) }
+    ensures stops { Stops D.Disk (record { command = command_of (texts words.now); before = record { pages = pages; journal = journal }; after = record { pages = result.pages; journal = result.journal }; status = result.status }) }
 {
-    let outcome = perform(alloc, words, &mut pages, &mut journal);
-    let status = report(sink, outcome);
+    let Performed {
+        outcome,
+        pages,
+        journal,
+    } = perform(alloc, words, pages, journal);
+    let status = report(sink, &outcome).status;
     Done {
         status,
         pages,
         journal,
-    }
-}
-
-/// Does what the words ask for.
-fn perform<D: Disk>(
-    alloc: Global,
-    words: &[String],
-    pages: &mut D,
-    journal: &mut D,
-) -> Result<(), Refusal>
-    ensures reason { HasReason D.Disk (command_of (texts words.now)) (record { pages = pages.old; journal = journal.old }) (record { pages = pages.new; journal = journal.new }) result }
-    ensures onward { AreOnward D.Disk (record { pages = pages.old; journal = journal.old }) (record { pages = pages.new; journal = journal.new }) }
-    ensures synced { OnOk result (AreSynced D.Disk (record { pages = pages.new; journal = journal.new })) }
-{
-    match read_command(words) {
-        Some(Command::Create(count)) => create(alloc, pages, journal, count),
-        Some(Command::NotYet) => Err(Refusal::Later),
-        None => Err(Refusal::Usage),
-    }
-}
-
-/// Makes a store of so many pages with the catalog of the design database.
-fn create<D: Disk>(alloc: Global, pages: &mut D, journal: &mut D, count: u32) -> Result<(), Refusal>
-    requires few { 16 ≤ count }
-    requires most { count ≤ 16384 }
-    ensures reason { HasReason D.Disk (Some (Command.Create count)) (record { pages = pages.old; journal = journal.old }) (record { pages = pages.new; journal = journal.new }) result }
-    ensures onward { AreOnward D.Disk (record { pages = pages.old; journal = journal.old }) (record { pages = pages.new; journal = journal.new }) }
-    ensures synced { OnOk result (AreSynced D.Disk (record { pages = pages.new; journal = journal.new })) }
-{
-    let Ok(catalog) = oo7_schema::catalog(alloc) else {
-        unreachable!()
-    };
-    match store::create(pages, journal, count, &catalog) {
-        Ok(()) => Ok(()),
-        Err(CreateFault::Exists { .. }) => Err(Refusal::Exists),
-        Err(CreateFault::PageFault) => Err(Refusal::PageFault),
-        Err(CreateFault::JournalFault) => Err(Refusal::JournalFault),
     }
 }

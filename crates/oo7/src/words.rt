@@ -2,13 +2,17 @@
 ghost use Rattle.std.specs.Prelude.{◌≡◌};
 ghost use Rattle.std.specs.Char.{is_ascii_digit};
 ghost use Rattle.std.specs.List.{list_all};
-ghost use Rattle.oo7.specs.Words.{texts, is_decimal, number_of, create_of, command_of};
+ghost use Rattle.oo7.specs.Words.{texts, is_decimal, number_of, create_of, alone, command_of};
 
 /// What the program can be asked for.
 #[derive(Clone, Copy, Debug, PartialEq, Eq)]
 pub enum Command {
     /// Make a store of so many pages.
     Create(u32),
+    /// Carry the journal's records into the page file.
+    Checkpoint,
+    /// Print what the roots reach.
+    Dump,
     /// A command that isn't there yet.
     NotYet,
 }
@@ -22,8 +26,21 @@ pub fn read_command(words: &[String]) -> Option<Command>
     };
     match command.as_str() {
         "create" => read_create(rest),
-        "build" | "run" | "dump" | "checkpoint" | "drill" => Some(Command::NotYet),
+        "checkpoint" => alone(rest, Command::Checkpoint),
+        "dump" => alone(rest, Command::Dump),
+        "build" | "run" | "drill" => Some(Command::NotYet),
         _ => None,
+    }
+}
+
+/// A command behind which no word stands.
+fn alone(words: &[String], command: Command) -> Option<Command>
+    ensures { result ≡ alone command (texts words.now) }
+{
+    if words.is_empty() {
+        Some(command)
+    } else {
+        None
     }
 }
 

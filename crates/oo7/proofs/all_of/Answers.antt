@@ -1,4 +1,4 @@
-use Rattle.std.proofs.Common.{◌≡◌, ◌∙◌}
+use Rattle.std.proofs.Common.{◌∙◌}
 use Rattle.std.proofs.IntoIterSteps.{All-taken}
 use Rattle.oo7.proofs.all_of.Goals as goal
 

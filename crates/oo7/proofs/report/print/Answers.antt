@@ -1,4 +1,4 @@
-use Rattle.std.proofs.Common.{◌≡◌, ◌+◌, ◌∙◌, ◌<◌, ◌-◌, length, inr, arith, rules}
+use Rattle.std.proofs.Common.{◌+◌, ◌∙◌, arith}
 use Rattle.pm3_disk.specs.Faults.{Rose}
 use Rattle.oo7.proofs.Pieces.{taken_so_far}
 use Rattle.oo7.proofs.report.print.Goals as goal
@@ -14,4 +14,4 @@ pub returns-in-Err : goal.returns-in-Err
 returns-in-Err g c =
     let part = c.in-Err.ensures.part in
     let rose : Rose (g.K.Sink.faults c.args.sink.now) (g.K.Sink.faults c.write.new.self) = omega (arith, c.loop-done.invariant.faults, c.in-Err.ensures.failed) in
-    record { output = inr (rose, (c.loop-done.done + part.0, taken_so_far _ _ _ c.args.bytes.now c.loop-done.done part.0 c.loop-done.invariant.taken (rw c.split_at.ensures.back at part.2))) }
+    record { output = (rose, (c.loop-done.done + part.0, taken_so_far _ _ _ c.args.bytes.now c.loop-done.done part.0 c.loop-done.invariant.taken (rw c.split_at.ensures.back at part.2))) }
