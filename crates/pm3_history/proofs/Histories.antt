@@ -1,10 +1,10 @@
 -- Histories of several commits.
-use Rattle.std.proofs.Common.{◌≡◌, ◌↔◌, ℕ, List, [], ◌∷◌, ◌++◌, refl}
+use Rattle.std.proofs.Common.{ℕ, List, [], ◌∷◌, ◌++◌, refl}
 use Rattle.pm3_types.specs.Fields.{Fields}
 use Rattle.pm3_history.specs.Entry.{Done}
-use Rattle.pm3_history.specs.State.{State, step, entry_after, now, entries_of, graph_after}
+use Rattle.pm3_history.specs.State.{State, step, entry_after, now}
 use Rattle.pm3_history.specs.Lawful.{AreLawful}
-use Rattle.pm3_history.specs.Opens.{Origin, Opens, LawfulFrom}
+use Rattle.pm3_history.specs.Opens.{LawfulFrom}
 use Rattle.pm3_history.specs.HistoryLaws.{GoesOn, GraphIsFold, LawfulParts, LooseIsLawful}
 
 pub goes_on : GoesOn

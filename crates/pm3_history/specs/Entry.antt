@@ -1,5 +1,5 @@
 -- What one commit adds to the history: as images of pages, and as parts of a graph.
-use Rattle.std.specs.Prelude.{ℕ, Bool, List, [], Option, None, Some, refl}
+use Rattle.std.specs.Prelude.{ℕ, Bool, List, Option, None, refl}
 use Rattle.std.specs.Ordering.{nat_cmp}
 use Rattle.std.specs.FinMap as map
 use Rattle.std.specs.FinSet as set

@@ -1,9 +1,9 @@
 -- What holds of every history.
-use Rattle.std.specs.Prelude.{ℕ, ◌≡◌, ◌↔◌, List, [], ◌∷◌, ◌++◌}
+use Rattle.std.specs.Prelude.{ℕ, ◌≡◌, ◌↔◌, List, ◌++◌}
 use Rattle.pm3_types.specs.Fields.{Fields}
 use Rattle.pm3_history.specs.Entry.{Done}
-use Rattle.pm3_history.specs.State.{State, step, entry_after, now, entries_of, graph_after}
-use Rattle.pm3_history.specs.Lawful.{IsLawful, AreLawful}
+use Rattle.pm3_history.specs.State.{State, now, entries_of, graph_after}
+use Rattle.pm3_history.specs.Lawful.{AreLawful}
 use Rattle.pm3_history.specs.Opens.{Origin, Opens, LawfulFrom}
 
 -- the state after more commits is the state after these, from the state after the first

@@ -11,9 +11,9 @@ use Rattle.pm3_types.specs.PageForm.{IsReferenceIn, HasForm, is_memory_reference
 use Rattle.pm3_types.specs.Record.{Record}
 use Rattle.pm3_types.specs.Shown.{Book, Images, FitsImages, shown}
 use Rattle.pm3_history.specs.Laid.{laid}
-use Rattle.pm3_history.specs.Entry.{Move, Pass, Done, Entry}
+use Rattle.pm3_history.specs.Entry.{Pass, Done, Entry}
 use Rattle.pm3_history.specs.Named.{book_by, next_book}
-use Rattle.pm3_history.specs.State.{State, step, entry_after, opening_state}
+use Rattle.pm3_history.specs.State.{State, step, entry_after}
 
 -- the images by which an entry is read: those of its pass before it, or the written ones where there is no pass
 abbrev pub images_by : Images → Option Pass → Images

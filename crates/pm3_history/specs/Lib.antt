@@ -4,4 +4,13 @@ pub mod Named
 pub mod State
 pub mod Lawful
 pub mod Opens
+pub mod Persistent
+pub mod Chronicled
+pub mod Bounded
+pub mod ChronicleLaws
+pub mod Commits
+pub mod Files
+pub mod Homes
+pub mod Spaces
+pub mod LastImages
 pub mod HistoryLaws

@@ -1,5 +1,5 @@
 -- What a history begins from: what was told of an opened store, and the states that it may stand for.
-use Rattle.std.specs.Prelude.{ℕ, ◌≡◌, Bool, true, false, cond, List, take, Option, Some, refl}
+use Rattle.std.specs.Prelude.{ℕ, ◌≡◌, ◌≤◌, Bool, true, false, cond, List, take, Option, Some, None, is_some, refl}
 use Rattle.std.specs.FinMap.{get}
 use Rattle.std.specs.Coded.{Coded, code_by, coded×, coded_ℕ, coded_bool, coded_list, coded_option}
 use Rattle.pm3_types.specs.Fields.{Fields}
@@ -11,7 +11,7 @@ use Rattle.pm3_types.specs.Shown.{Images}
 use Rattle.pm3_journal.specs.Summaries.{Summary}
 use Rattle.pm3_journal.specs.Codes.{summary_code}
 use Rattle.pm3_journal.specs.FileHead.{page_count_of}
-use Rattle.pm3_journal.specs.Opening.{OpenTo}
+use Rattle.pm3_journal.specs.Opening.{OpenTo, last_image}
 use Rattle.pm3_history.specs.Entry.{Done, images_code}
 use Rattle.pm3_history.specs.State.{State, opening_state}
 use Rattle.pm3_history.specs.Lawful.{AreLawful}
@@ -26,7 +26,7 @@ pub record Origin : Type 0 where
   pub file : Option (List ℕ)
   pub journal : Option (List ℕ)
 
--- The two files are told and open to the state. An origin that opens to no state is loose: nothing is said over it of a
+-- The two files are told and open to the state, and each page of the records from 2 on is among the opened images. An origin that opens to no state is loose: nothing is said over it of a
 -- graph, a book or what images show.
 pub record Opens (base pages : ℕ) (o : Origin) (st : State) : Type 0 where
   pub page_file : List ℕ
@@ -39,6 +39,7 @@ pub record Opens (base pages : ℕ) (o : Origin) (st : State) : Type 0 where
   pub catalog_is : opens.catalog ≡ o.catalog
   pub count : page_count_of (take 32 journal_file) ≡ pages
   pub among : (page : ℕ) (sheet : Sheet) → get o.images page ≡ Some sheet → get st.pages page ≡ Some sheet
+  pub recorded : (page : ℕ) → 2 ≤ page → is_some (last_image page opens.list None) ≡ true → is_some (get o.images page) ≡ true
 
 -- the history is lawful from each state that the origin opens to
 unfoldable pub LawfulFrom : ℕ → ℕ → Origin → List Done → Type 0
