@@ -7,8 +7,12 @@
 #![tactic(auto)]
 
 mod draws;
+mod settles;
+mod states;
 mod units;
 
 pub use draws::{draw_name, draw_page};
-pub use pm3_table::{Busy, Full, Limit, Unit, give_turn, look, settle_held, settle_volatile};
+pub use pm3_table::{Busy, Full, Limit, Unit, give_turn, look};
+pub use settles::settle;
+pub use states::PageState;
 pub use units::{give, take};

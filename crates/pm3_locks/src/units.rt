@@ -1,6 +1,6 @@
 //! Units are taken in a single try, and given back.
 ghost use Rattle.std.specs.Prelude.{◌≡◌, ◌≢◌, ℕ, ◌+◌, ◌<◌, ◌≤◌, true, false, IfOk, IfErr};
-ghost use Rattle.pm3_locks.specs.Numbers.{number, IsUnit};
+ghost use Rattle.pm3_table.specs.Numbers.{number, IsUnit};
 ghost use Rattle.pm3_table.specs.declared.unit.Unit.TheVariants.{Turn};
 ghost use Rattle.pm3_table.specs.Deeds.{marks_of};
 ghost use Rattle.pm3_table.specs.Holds.{holds_of, spans_of, is_in};

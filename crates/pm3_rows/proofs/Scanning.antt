@@ -1,8 +1,7 @@
 -- What a scan leaves in a log.
-use Rattle.std.proofs.Common.{◌≡◌, ◌≢◌, ◌⊎◌, ℕ, zero, suc, ◌+◌, ◌-◌, ◌*◌, ◌/◌, ◌%◌, ◌<◌, ◌≤◌, ◌&&◌, not, Bool, true, false, if◌then◌else◌, List, [], ◌∷◌, ◌++◌, length, get_or, refl, sym, ap, ◌∙◌, subst, arith}
-use Rattle.std.proofs.lemmas.Bool.Decides.{nat_tests}
+use Rattle.std.proofs.Common.{◌≡◌, ℕ, zero, suc, ◌+◌, ◌/◌, ◌%◌, ◌<◌, ◌≤◌, ◌&&◌, not, Bool, true, false, if◌then◌else◌, List, [], ◌∷◌, ◌++◌, length, get_or, Some, refl, sym, ap, ◌∙◌, subst, arith}
 use mathlib.Core.Logic.{dite}
-use native.Mathlib.Decide.{ℕ_discrete, dec_lt}
+use native.Mathlib.Decide.{ℕ_discrete}
 use Rattle.pm3_core.specs.declared.events.TheConstants.{PLACES, ROW_PLACES}
 use Rattle.pm3_core.specs.Machine.{put, spot}
 use Rattle.pm3_core.specs.Naming.{Names, names}
@@ -10,7 +9,8 @@ use Rattle.pm3_core.proofs.Names.{names_not}
 use Rattle.pm3_table.specs.declared.view.Deed.{Deed}
 use Rattle.pm3_table.specs.declared.view.Deed.TheVariants.{Found}
 use Rattle.pm3_table.specs.Deeds.{marks_of, reads_of, IsClearedIn}
-use Rattle.pm3_table.proofs.Put.{put_cases}
+use Rattle.pm3_table.specs.Reads.{read_of, marked_then}
+use Rattle.pm3_table.proofs.Put.{put_at, put_else, put_cases}
 use Rattle.pm3_rows.specs.Scans.{scanned}
 
 -- one word more
@@ -59,3 +59,35 @@ pub scanned_clears : (pages : ℕ) (ws : List ℕ) (log : List Deed) (page : ℕ
     → IsClearedIn pages (scanned 0 ws log) page
 scanned_clears pages ws log page full marked free =
     (scanned_marks 0 ws log page ∙ marked, λ i low. scanned_reads pages 0 ws log page marked (λ k b. free k (omega (arith, b, full))) i (omega arith) (omega (arith, low, full)))
+
+-- what was read last before a place that is read now stays
+read_stays : (n i : ℕ) (ws : List ℕ) (log : List Deed) → i < n → read_of (scanned n ws log) i ≡ read_of log i
+read_stays n i [] log low = refl
+read_stays n i (w ∷ ws) log low =
+    read_stays (n + 1) i ws (Found (n / ROW_PLACES) (n % ROW_PLACES) w ∷ log) (omega (arith, low))
+    ∙ put_else (read_of log) (spot (n / ROW_PLACES) (n % ROW_PLACES)) (Some w) i (λ e. let w : spot (n / ROW_PLACES) (n % ROW_PLACES) ≡ n = where_found n in absurd (omega (arith, low, e, w)))
+
+-- each word of a scan is the one that was read last at its place
+scanned_words : (n k : ℕ) (ws : List ℕ) (log : List Deed) → k < length ws → read_of (scanned n ws log) (n + k) ≡ Some (get_or ws k 0)
+scanned_words n k [] log low = absurd (omega arith)
+scanned_words n zero (w ∷ ws) log low =
+    let at : n + 0 ≡ n = omega arith in
+    ap (read_of (scanned (n + 1) ws (Found (n / ROW_PLACES) (n % ROW_PLACES) w ∷ log))) at
+    ∙ (read_stays (n + 1) n ws (Found (n / ROW_PLACES) (n % ROW_PLACES) w ∷ log) (omega arith)
+    ∙ put_at (read_of log) (spot (n / ROW_PLACES) (n % ROW_PLACES)) (Some w) n (sym (where_found n)))
+scanned_words n (suc k) (w ∷ ws) log low =
+    let at : n + suc k ≡ n + 1 + k = omega arith in
+    ap (read_of (scanned (n + 1) ws (Found (n / ROW_PLACES) (n % ROW_PLACES) w ∷ log))) at
+    ∙ scanned_words (n + 1) k ws (Found (n / ROW_PLACES) (n % ROW_PLACES) w ∷ log) (omega (arith, low))
+
+pub scanned_word : (n : ℕ) (ws : List ℕ) (log : List Deed) → n < length ws → read_of (scanned 0 ws log) n ≡ Some (get_or ws n 0)
+scanned_word n ws log low = ap (read_of (scanned 0 ws log)) (let e : n ≡ 0 + n = omega arith in e) ∙ scanned_words 0 n ws log low
+
+-- the pages marked when the last word of a scan was read are those that were marked before it
+pub scanned_then : (n : ℕ) (w : ℕ) (ws : List ℕ) (log : List Deed) (page : ℕ) → marked_then (scanned n (w ∷ ws) log) page ≡ marks_of log page
+scanned_then n w [] log page = refl
+scanned_then n w (x ∷ xs) log page = scanned_then (n + 1) x xs (Found (n / ROW_PLACES) (n % ROW_PLACES) w ∷ log) page
+
+pub full_then : (ws : List ℕ) (log : List Deed) (page : ℕ) → length ws ≡ PLACES → marked_then (scanned 0 ws log) page ≡ marks_of log page
+full_then [] log page full = absurd (omega (arith, full))
+full_then (w ∷ ws) log page full = scanned_then 0 w ws log page

@@ -1,11 +1,11 @@
 -- What a validation of a place does.
-use Rattle.std.specs.Prelude.{◌≡◌, ◌≢◌, ◌⊎◌, ℕ}
+use Rattle.std.specs.Prelude.{◌⊎◌, ℕ}
 use Rattle.atomic_table.specs.Seated.{TableId}
 use Rattle.pm3_core.specs.Naming.{Names}
 use Rattle.pm3_table.specs.declared.view.Deed.TheVariants.{Stood, Found}
 use Rattle.pm3_table.specs.declared.view.View.{View}
 use Rattle.pm3_table.specs.Deeds.{word_of}
-use Rattle.pm3_table.specs.Ops.{did, refused}
+use Rattle.pm3_table.specs.Ops.{did}
 use Rattle.pm3_table.specs.Passes.{Becomes}
 
 -- the view once it has read its own word at a place

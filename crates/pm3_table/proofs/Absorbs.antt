@@ -1,36 +1,34 @@
 -- What the parts of the rule become when one mutator takes in another, which ends.
-use Rattle.std.proofs.Common.{◌≡◌, ◌≢◌, ◌⊎◌, ℕ, zero, suc, ◌+◌, ◌-◌, ◌<◌, ◌≤◌, ◌==◌, ◌||◌, nat_lt, Bool, true, false, if◌then◌else◌, min, max, List, [], ◌∷◌, ◌++◌, append_assoc, length, length-append, refl, sym, ap, ◌∙◌, subst, inl, inr, ⊎_elim, arith}
+use Rattle.std.proofs.Common.{◌≡◌, ◌≢◌, ◌⊎◌, ℕ, zero, suc, ◌+◌, ◌-◌, ◌<◌, ◌≤◌, ◌==◌, ◌||◌, nat_lt, Bool, true, false, if◌then◌else◌, min, max, List, [], ◌∷◌, ◌++◌, append_assoc, length, length-append, drop, drop_of_length-le, refl, sym, ap, ◌∙◌, subst, inl, inr, ⊎_elim, arith}
 use Rattle.std.proofs.lemmas.Bool.Decides.{nat_tests}
+use Rattle.std.proofs.lemmas.List.{drop_at}
 use mathlib.Core.Option as maybe
 use mathlib.Core.Option.{some}
 use mathlib.Core.Logic.{dite}
 use native.Mathlib.Decide.{ℕ_discrete}
-use lib.ListN.{get_elem?}
-use Rattle.pm3_core.specs.declared.events.TheConstants.{ROWS, ROW_PLACES}
+use Rattle.pm3_core.specs.declared.events.TheConstants.{ROW_PLACES}
 use Rattle.pm3_core.specs.declared.events.Event.{Event}
 use Rattle.pm3_core.specs.Naming.{Names, page_in}
-use Rattle.pm3_core.specs.Machine.{Machine, put, spot, opening, reached}
+use Rattle.pm3_core.specs.Machine.{Machine, put, spot}
 use Rattle.pm3_core.proofs.Stood.{reached_named}
 use Rattle.pm3_history.specs.Entry.{Done}
-use Rattle.pm3_table.specs.declared.view.Kept.{Kept}
-use Rattle.pm3_table.specs.Histories.{some_has, NoneHas, by}
+use Rattle.pm3_table.specs.Histories.{some_has, NoneHas}
 use Rattle.pm3_table.specs.Deeds.{word_of, marks_of}
 use Rattle.pm3_table.specs.Holds.{holds_of, spans_of, is_in}
 use Rattle.pm3_table.specs.Rows.{RowView, RowsRule, KnowsRow}
-use Rattle.pm3_table.specs.Seats.{longer}
+use Rattle.pm3_table.specs.Seats.{beyond}
 use Rattle.pm3_table.specs.Units.{UnitView, UnitsRule, KnowsUnits}
 use Rattle.pm3_table.specs.Pages.{PageView, PagesRule}
 use Rattle.pm3_table.specs.Words.{space_unit}
 use Rattle.pm3_table.specs.Names.{NameView, NamesRule}
-use Rattle.pm3_table.specs.Counts.{CountView, CountsRule, counts, counted_under, is_kept, kept_under, Distinct}
 use Rattle.pm3_table.specs.Lost.{LostView, LostRule}
 use Rattle.pm3_table.proofs.Put.{put_at, put_here, put_else, put_cases}
 use Rattle.pm3_table.proofs.Has.{none_right}
 use Rattle.pm3_table.proofs.UnitsKept.{unit_with}
 use Rattle.pm3_table.proofs.PagesKept.{yes_or_no, page_with}
-use Rattle.pm3_table.proofs.NamesKept.{name_with, count_with, live_low, own_of}
+use Rattle.pm3_table.proofs.NamesKept.{name_with}
 use Rattle.pm3_table.proofs.LostKept.{lost_with}
-use Rattle.pm3_table.proofs.Enters.{not_dead, same_test, is_same}
+use Rattle.pm3_table.proofs.Enters.{not_dead, same_test}
 
 no_page : (pages p : ℕ) → Names pages 0 p → ⊥
 no_page pages p is = omega (arith, is.1)
@@ -94,6 +92,23 @@ short (y ∷ ys) z = absurd (omega arith)
 drop_front : (a x y : List Done) → a ++ x ≡ a ++ y → x ≡ y
 drop_front [] x y e = e
 drop_front (f ∷ a) x y e = drop_front a x y (cc)
+
+-- the longer of two lists
+abbrev pub longer : List Done → List Done → List Done
+longer a b = if nat_lt (length a) (length b) then b else a
+
+past : (a m : List Done) → drop (length a) (a ++ m) ≡ m
+past a m = drop_at a m (length a) refl
+
+-- of two lists that begin one list, it is the first with what the second has beyond it
+pub longer_is : (h a x b y : List Done) → h ≡ a ++ x → h ≡ b ++ y → a ++ beyond a b ≡ longer a b
+longer_is h a x b y p q = chosen (nat_lt (length a) (length b)) refl
+  where
+    chosen : (t : Bool) → nat_lt (length a) (length b) ≡ t → a ++ beyond a b ≡ (if t then b else a)
+    chosen true e =
+        let more = begins_with h a x b y p q (grind (arith, nat_tests, e)) in
+        ap (λ (l : List Done). a ++ drop (length a) l) more.1 ∙ ap (λ (l : List Done). a ++ l) (past a more.0) ∙ sym more.1
+    chosen false e = ap (λ (l : List Done). a ++ l) (drop_of_length-le b {i = length a} (grind (arith, nat_tests, e))) ∙ append_nothing a
 
 pub longer_end : (names : Done → ℕ → Bool) (h a x b y : List Done) → h ≡ a ++ x → h ≡ b ++ y
     → (z : List Done) × (h ≡ longer a b ++ z) × ((u : ℕ) → NoneHas names x u → NoneHas names z u)
@@ -193,6 +208,7 @@ pages_absorb empty spans pages frontier refers top used mark space holder histor
           ⊎_elim (λ e. ⊎_elim (λ d. sym e ∙ (same ∙ d)) (λ d. absurd (f.4 (sym e ∙ (same ∙ d.0)))) g.3)
           (λ e. ⊎_elim (λ d. absurd (g.4 (sym d ∙ (sym same ∙ e.0)))) (λ d. e.1 ∙ sym d.1) g.3) f.3;
       named = r.named;
+      written = r.written;
     }
 
 pub names_absorb : (makes : Done → ℕ → Bool) (first top : ℕ) (history : List Done) (crew : ℕ → NameView) → NamesRule makes first top history crew → (k n : ℕ) → k ≢ n → (crew k).live ≡ true → (crew n).live ≡ true → (x : NameView) → x.live ≡ false

@@ -1,16 +1,14 @@
 -- What a pass and a table show, over their fields.
-use Rattle.std.proofs.Common.{◌≡◌, ◌≢◌, ℕ, ◌+◌, ◌<◌, true, false, List, [], ◌∷◌, ◌++◌, Option, refl, sym, ap, ◌∙◌, subst}
-use Rattle.atomic_table.specs.Table.{rest}
+use Rattle.std.proofs.Common.{◌≡◌, ℕ, true, false, List, [], ◌∷◌, Option, refl, sym, ◌∙◌, subst}
 use Rattle.pm3_history.specs.Entry.{Done}
 use Rattle.pm3_table.specs.declared.view.Told.{Told}
 use Rattle.pm3_table.specs.declared.view.View.{View}
 use Rattle.std.proofs.Common.{arith}
 use Rattle.std.proofs.lemmas.Bool.Decides.{nat_tests}
 use Rattle.pm3_table.specs.declared.view.Hold.{Hold}
-use Rattle.pm3_table.specs.Seats.{left_view, new_view, both_views}
 use Rattle.pm3_table.specs.Carried.{IsIdle, Carries, slots_in, dropped}
 use Rattle.pm3_table.specs.Holds.{holds_of, is_in}
-use Rattle.pm3_table.specs.Ops.{gave, turned, drew_row}
+use Rattle.pm3_table.specs.Ops.{gave, turned}
 use Rattle.pm3_table.proofs.Carrying.{carries_gave}
 
 -- what a contract says of a pass and a table holds of their fields

@@ -1,5 +1,5 @@
 -- The slots that a pass carries: how one comes to the top, and what is carried after a unit is taken or given back.
-use Rattle.std.proofs.Common.{◌≡◌, ◌≢◌, ◌⊎◌, ℕ, zero, suc, ◌+◌, ◌<◌, ◌==◌, ◌||◌, Bool, true, false, if◌then◌else◌, List, [], ◌∷◌, length, length-set, Option, None, Some, refl, sym, ap, ◌∙◌, subst, inl, inr, ⊎_elim, arith}
+use Rattle.std.proofs.Common.{◌≡◌, ◌≢◌, ℕ, suc, ◌<◌, ◌==◌, ◌||◌, Bool, true, false, if◌then◌else◌, List, [], ◌∷◌, length, length-set, Option, None, refl, sym, ap, ◌∙◌, subst, arith}
 use Rattle.std.proofs.Math.ListN.{set}
 use Rattle.std.proofs.lemmas.Bool.Decides.{nat_tests}
 use mathlib.Core.Option as maybe
@@ -17,7 +17,6 @@ use Rattle.pm3_table.specs.Holds.{holds_of, is_in}
 use Rattle.pm3_table.specs.Carried.{slots_in, AreEmpty, dropped, Carries}
 use Rattle.pm3_table.proofs.Put.{put_at, put_else, put_cases}
 use Rattle.pm3_table.proofs.Advances.{inside}
-use Rattle.pm3_table.proofs.PagesKept.{yes_or_no}
 
 eq_of : (a b : ℕ) → (a == b) ≡ true → a ≡ b
 eq_of a b e = grind (arith, nat_tests, e)

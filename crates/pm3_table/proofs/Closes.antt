@@ -1,38 +1,36 @@
 -- The last mutator sees that it is the last, and a table that it closes has values for the whole history.
-use Rattle.std.proofs.Common.{◌≡◌, ◌≢◌, ◌⊎◌, ℕ, zero, suc, ◌+◌, ◌-◌, ◌<◌, ◌≤◌, ◌==◌, Bool, true, false, if◌then◌else◌, List, [], ◌∷◌, ◌++◌, length, get_or, min, Option, None, Some, refl, sym, ap, ◌∙◌, subst, inl, inr, ⊎_elim, arith}
+use Rattle.std.proofs.Common.{◌≡◌, ◌≢◌, ℕ, suc, ◌+◌, ◌-◌, ◌<◌, ◌≤◌, ◌==◌, Bool, true, false, List, [], ◌++◌, length, get_or, min, Option, None, refl, sym, ap, ◌∙◌, subst, ⊎_elim, arith}
 use Rattle.std.proofs.Math.ListN.{set}
 use Rattle.std.proofs.lemmas.Bool.Decides.{nat_tests}
-use mathlib.Core.Option.{some, none}
+use mathlib.Core.Option.{none}
 use mathlib.Core.Logic.{dite}
 use native.Mathlib.Decide.{ℕ_discrete}
-use lib.ListN.{get_elem?}
-use Rattle.atomic_table.specs.Table.{State, Me, step, Act, keeps, Allows, Final, Seen}
+use Rattle.atomic_table.specs.Table.{State, Me, step, keeps, Allows, Final, Seen}
 use Rattle.pm3_core.specs.Machine.{put}
 use Rattle.pm3_history.specs.Entry.{Done}
 use Rattle.pm3_table.specs.declared.view.Told.{Told}
 use Rattle.pm3_table.specs.declared.view.View.{View}
 use Rattle.pm3_table.specs.Closing.{IsClosed}
-use Rattle.pm3_table.specs.Crew.{Lives, Seated, total}
+use Rattle.pm3_table.specs.Crew.{Lives, total}
 use Rattle.pm3_table.specs.Counts.{CountsRule, counts, counted_under}
 use Rattle.pm3_table.specs.Draws.{DrawsRule, DrawView, drew}
 use Rattle.pm3_table.specs.Entries.{makes}
 use Rattle.pm3_table.specs.Histories.{by}
 use Rattle.pm3_table.specs.Holds.{holds_of, is_in}
-use Rattle.pm3_table.specs.Lasts.{LastView, LastRule}
 use Rattle.pm3_table.specs.Lost.{LostRule}
 use Rattle.pm3_table.specs.Names.{NamesRule}
 use Rattle.pm3_table.specs.Pages.{PagesRule}
 use Rattle.pm3_table.specs.Plays as play
 use Rattle.pm3_table.specs.Rows.{RowsRule, moves_of}
-use Rattle.pm3_table.specs.Rule.{Ruled, row_view, unit_view, page_view, draw_view, name_view, count_view, lost_view, last_view}
+use Rattle.pm3_table.specs.Rule.{Ruled, row_view, unit_view, page_view, draw_view, name_view, count_view, lost_view}
 use Rattle.pm3_table.specs.Telling.{Lawful, limit, first, names, names_page, Good, spans_in, counted_in}
 use Rattle.pm3_table.specs.Units.{UnitsRule}
 use Rattle.pm3_table.specs.Words.{counter_at, turn_unit}
 use Rattle.pm3_table.proofs.Advances.{seated_now, unchanged}
 use Rattle.pm3_table.proofs.Encoded.{encode_same}
 use Rattle.pm3_table.proofs.Enters.{not_dead}
-use Rattle.pm3_table.proofs.Put.{put_at, put_else, put_cases}
-use Rattle.pm3_table.proofs.RowSteps.{at_view, equal_by, here_is, here_lives, row_low, holds_not}
+use Rattle.pm3_table.proofs.Put.{put_else, put_cases}
+use Rattle.pm3_table.proofs.RowSteps.{equal_by, here_is, here_lives, row_low, holds_not}
 use Rattle.pm3_table.proofs.Totals.{total_put, total_part, total_none}
 use Rattle.pm3_table.proofs.PagesKept.{yes_or_no}
 
@@ -67,11 +65,20 @@ module _ {V : Type 0} (stands : Told → List Done → List Done → ℕ → V �
         let none_there : f j ≡ 0 = only_one f v.row j (row_low stands spans counted told s r id v l) (r.seated.below j live) o (omega (arith, sum, mine, all)) in
         absurd (counts_one (draw_view (r.crew j)) live (omega arith) none_there))
 
+    -- it counts no more than were made
+    pub few : v.rows ≡ [] → length v.kept + 1 ≤ min (r.counter 2) 32
+    few no_rows =
+        let f : ℕ → ℕ = λ k. drew 2 (draw_view (r.crew k)) in
+        let sum = r.draws.sum 2 (omega arith) in
+        let mine : f v.row ≡ length v.kept + 1 = ap (λ (y : View). drew 2 (draw_view y)) (here_is stands spans counted told s r id v l) ∙ drew_is v l.1 no_rows in
+        let part : f v.row ≤ total 32 f = total_part 32 f v.row (row_low stands spans counted told s r id v l) in
+        omega (arith, sum, mine, part)
+
     -- a load of the row counter tells whether it is the only one
-    pub sees_last : (b : Bool) → (min (r.counter 2) 32 == length v.kept + 1) ≡ b → v.rows ≡ [] → (i : ℕ)
-        → Rule record { words = set s.words i (get_or s.words i 0); homes = s.homes; views = set s.views id (record v { last = b }) }
-    sees_last b is no_rows i =
-        let w : View = record v { last = b } in
+    pub sees_last : (b : Bool) (n : ℕ) → (min (r.counter 2) 32 == length v.kept + 1) ≡ b → v.rows ≡ [] → (i : ℕ)
+        → Rule record { words = set s.words i (get_or s.words i 0); homes = s.homes; views = set s.views id (record v { last = b; made = n }) }
+    sees_last b n is no_rows i =
+        let w : View = record v { last = b; made = n } in
         let live : w.live ≡ true = l.1 in
         record {
           crew = put r.crew v.row w;
@@ -98,8 +105,8 @@ module _ {V : Type 0} (stands : Told → List Done → List Done → ℕ → V �
           bounds = r.bounds;
         }
       where
-        was : (j : ℕ) → (put r.crew v.row (record v { last = b }) j).live ≡ true → (r.crew j).live ≡ true
-        was j = put_cases (λ y. y.live ≡ true → (r.crew j).live ≡ true) r.crew v.row (record v { last = b }) j
+        was : (j : ℕ) → (put r.crew v.row (record v { last = b; made = n }) j).live ≡ true → (r.crew j).live ≡ true
+        was j = put_cases (λ y. y.live ≡ true → (r.crew j).live ≡ true) r.crew v.row (record v { last = b; made = n }) j
             (λ here _. ap (λ (k : ℕ). (r.crew k).live) here ∙ here_lives stands spans counted told s r id v l) (λ _ x. x)
 
   pub last_call : (slots id : ℕ) (me : Me (Option V) View) → me.0.live ≡ true → me.0.rows ≡ [] → (at : ℕ) → at ≡ counter_at told.pages 2
@@ -107,19 +114,20 @@ module _ {V : Type 0} (stands : Told → List Done → List Done → ℕ → V �
   last_call slots id me live no_rows at is = rw is (λ s r deep seat fits.
       let n : ℕ = get_or s.words (counter_at told.pages 2) 0 in
       let b : Bool = min n 32 == length me.0.kept + 1 in
-      let same : n ≡ r.counter 2 = r.words.counters 2 (omega arith) in (
-        record me.0 { last = b },
+      let same : n ≡ r.counter 2 = r.words.counters 2 (omega arith) in
+      let least = few s r id me.0 (seat, live) no_rows in (
+        record me.0 { last = b; made = min n 32 },
         keeps,
         tt,
-        sees_last s r id me.0 (seat, live) b (λ i. min (sym same i) 32 == length me.0.kept + 1) no_rows (counter_at told.pages 2),
-        refl,
+        sees_last s r id me.0 (seat, live) b (min n 32) (λ i. min (sym same i) 32 == length me.0.kept + 1) no_rows (counter_at told.pages 2),
+        (refl, omega (arith, same, least)),
       ))
 
   -- a table closed by one that saw that it is the last, and that holds nothing
-  pub closes : (id : ℕ) (old : View) (words : List ℕ) (slots : List (Option V)) → old.live ≡ true → ((u : ℕ) → holds_of old.holds u ≡ false) → old.rows ≡ []
-      → Final (Seen Rule id (record old { last = true })) words slots → IsClosed stands told old (length old.kept + 1) slots
-  closes id old words slots live bare no_rows final =
-      let v : View = record old { last = true } in
+  pub closes : (id : ℕ) (old : View) (made : ℕ) (words : List ℕ) (slots : List (Option V)) → old.live ≡ true → ((u : ℕ) → holds_of old.holds u ≡ false) → old.rows ≡ []
+      → Final (Seen Rule id (record old { last = true; made = made })) words slots → IsClosed stands told old (length old.kept + 1) slots
+  closes id old made words slots live bare no_rows final =
+      let v : View = record old { last = true; made = made } in
       let s = final.0 in let r : Rule s = final.1.0 in let l : Lives s.views id v = (final.1.1, live) in
       let here = here_is stands spans counted told s r id v l in
       let lives = here_lives stands spans counted told s r id v l in
@@ -139,6 +147,7 @@ module _ {V : Type 0} (stands : Told → List Done → List Done → ℕ → V �
       let made_is : length old.kept + 1 ≡ min (r.counter 2) 32 = omega (arith, whole, zero_sum, mine, sum) in
       record {
         lawful = subst (λ (h : List Done). Lawful told h) seen r.lawful.0;
+        lawful_failed = subst (λ (z : List Done × List Done). Lawful told (z.1 ++ z.0)) (λ i. (lost_is i, seen i)) r.lawful.1;
         stand = λ u low. let home = r.units.home u (omega (arith, low)) (free u) in
             (home.0, final.4 u home.0 home.1, subst (λ (z : List Done × List Done). Good stands told z.0 z.1 u home.0) (λ i. (lost_is i, seen i)) home.2);
         kept = λ k below.

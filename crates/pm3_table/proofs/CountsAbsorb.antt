@@ -9,10 +9,10 @@ use Rattle.pm3_table.specs.declared.view.Kept.{Kept}
 use Rattle.pm3_table.specs.Histories.{by}
 use Rattle.pm3_table.specs.Holds.{is_in}
 use Rattle.pm3_table.specs.Counts.{CountView, CountsRule, counts, counted_under, is_kept, kept_under, Distinct}
-use Rattle.pm3_table.proofs.Put.{put_at, put_here, put_else, put_cases}
+use Rattle.pm3_table.proofs.Put.{put_at, put_here, put_else}
 use Rattle.pm3_table.proofs.PagesKept.{yes_or_no}
 use Rattle.pm3_table.proofs.NamesKept.{count_with, own_of}
-use Rattle.pm3_table.proofs.Enters.{not_dead, same_test, is_same}
+use Rattle.pm3_table.proofs.Enters.{not_dead, same_test}
 
 kept-append : (a b : List Kept) (y : ℕ) → is_kept (a ++ b) y ≡ (is_kept a y || is_kept b y)
 kept-append [] b y = refl

@@ -1,38 +1,35 @@
 -- Steps of draws, and a look at a page's word, keep the whole rule.
-use Rattle.std.proofs.Common.{◌≡◌, ◌≢◌, ◌⊎◌, ℕ, zero, suc, ◌+◌, ◌-◌, ◌*◌, ◌^◌, ◌%◌, ◌<◌, ◌≤◌, ◌==◌, ◌||◌, ◌&&◌, Bool, true, false, if◌then◌else◌, List, [], ◌∷◌, ◌++◌, length, get_or, min, Option, None, Some, refl, sym, ap, ◌∙◌, subst, inl, inr, ⊎_elim, arith}
+use Rattle.std.proofs.Common.{◌≡◌, ◌≢◌, ◌⊎◌, ℕ, suc, ◌+◌, ◌^◌, ◌<◌, ◌≤◌, true, false, List, [], ◌∷◌, ◌++◌, length, get_or, min, Option, None, refl, sym, ap, ◌∙◌, subst, inl, inr, arith}
 use Rattle.std.proofs.Math.ListN.{set}
 use Rattle.std.proofs.lemmas.Bool.Decides.{nat_tests}
-use mathlib.Core.Option.{none, some}
 use mathlib.Core.Logic.{dite}
-use native.Mathlib.Decide.{ℕ_discrete, dec_le}
-use lib.ListN.{get_elem?}
+use native.Mathlib.Decide.{ℕ_discrete}
 use Rattle.atomic_table.specs.Table.{State}
-use Rattle.pm3_core.specs.Machine.{Machine, put}
+use Rattle.pm3_core.specs.Machine.{put}
 use Rattle.pm3_history.specs.Entry.{Done}
 use Rattle.pm3_table.specs.declared.view.Told.{Told}
 use Rattle.pm3_table.specs.declared.view.View.{View}
-use Rattle.pm3_table.specs.Crew.{Lives, Seated}
+use Rattle.pm3_table.specs.Crew.{Lives}
 use Rattle.pm3_table.specs.Entries.{makes}
-use Rattle.pm3_table.specs.Histories.{by}
 use Rattle.pm3_table.specs.Holds.{is_in}
-use Rattle.pm3_table.specs.Names.{NameView, NamesRule}
+use Rattle.pm3_table.specs.Names.{NamesRule}
 use Rattle.pm3_table.specs.Ops.{begins_draw, saw_full, drew_page, drew_name, drew_row, knew}
 use Rattle.pm3_table.specs.Telling.{limit, first, names, names_page, Good, spans_in, counted_in, knows_used}
 use Rattle.pm3_table.specs.Words.{Encodes, unit_at, counter_at, space_in, turn_unit}
 use Rattle.pm3_table.specs.Rows.{RowsRule, moves_of}
-use Rattle.pm3_table.specs.Pages.{PageView, PagesRule}
+use Rattle.pm3_table.specs.Pages.{PagesRule}
 use Rattle.pm3_table.specs.Units.{UnitsRule}
-use Rattle.pm3_table.specs.Draws.{DrawView, is_drawing, drew, DrawsRule}
-use Rattle.pm3_table.specs.Counts.{CountView, CountsRule}
+use Rattle.pm3_table.specs.Draws.{is_drawing, drew, DrawsRule}
+use Rattle.pm3_table.specs.Counts.{CountsRule}
 use Rattle.pm3_table.specs.Lost.{LostRule}
 use Rattle.pm3_table.specs.Lasts.{LastRule}
 use Rattle.pm3_table.specs.Rule.{Ruled, row_view, unit_view, page_view, draw_view, name_view, count_view, lost_view, last_view}
-use Rattle.pm3_table.proofs.Put.{put_at, put_here, put_else, put_cases, put_same}
+use Rattle.pm3_table.proofs.Put.{put_cases}
 use Rattle.pm3_table.proofs.Has.{by_past}
 use Rattle.pm3_table.proofs.Advances.{seated_now, unchanged}
 use Rattle.pm3_table.proofs.Encoded.{encode_same, encode_counter}
 use Rattle.pm3_table.proofs.RowSteps.{at_view, here_is, here_lives, row_low, space_found}
-use Rattle.pm3_table.proofs.DrawsKept.{draws_part, room, bounded, from_first}
+use Rattle.pm3_table.proofs.DrawsKept.{draws_part, from_first}
 use Rattle.pm3_table.proofs.PagesKept.{page_with, pages_draw, pages_higher, pages_look}
 use Rattle.pm3_table.proofs.NamesKept.{name_with, names_draw, names_higher, count_with, rows_draw}
 use Rattle.pm3_table.proofs.TurnSteps.{used_is}

@@ -1,13 +1,13 @@
 -- What draws leave of the part on counters.
-use Rattle.std.proofs.Common.{◌≡◌, ◌≢◌, ◌⊎◌, ℕ, zero, suc, ◌+◌, ◌-◌, ◌<◌, ◌≤◌, ◌==◌, ◌&&◌, ◌||◌, Bool, true, false, if◌then◌else◌, min, List, [], ◌∷◌, refl, sym, ap, ◌∙◌, subst, inl, inr, ⊎_elim, arith}
+use Rattle.std.proofs.Common.{◌≡◌, ◌≢◌, ◌⊎◌, ℕ, ◌+◌, ◌<◌, ◌≤◌, true, false, min, sym, ap, subst, ⊎_elim, arith}
 use Rattle.std.proofs.lemmas.Bool.Decides.{nat_tests}
 use mathlib.Core.Logic.{dite}
-use native.Mathlib.Decide.{ℕ_discrete, dec_le}
+use native.Mathlib.Decide.{dec_le}
 use Rattle.pm3_core.specs.Machine.{put}
 use Rattle.pm3_table.specs.Crew.{total}
 use Rattle.pm3_table.specs.Holds.{is_in}
 use Rattle.pm3_table.specs.Draws.{DrawView, is_drawing, drew, DrawsRule}
-use Rattle.pm3_table.proofs.Put.{put_at, put_here, put_else, put_cases, put_map}
+use Rattle.pm3_table.proofs.Put.{put_else, put_cases, put_map}
 use Rattle.pm3_table.proofs.Totals.{total_put, total_part, total_ones}
 
 one_at_most : (c : ℕ) (v : DrawView) → is_drawing c v ≤ 1

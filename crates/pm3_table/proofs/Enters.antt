@@ -1,5 +1,5 @@
 -- What the parts of the rule become when a new mutator enters.
-use Rattle.std.proofs.Common.{◌≡◌, ◌≢◌, ◌⊎◌, ℕ, zero, suc, ◌+◌, ◌-◌, ◌<◌, ◌≤◌, ◌==◌, ◌||◌, Bool, true, false, if◌then◌else◌, min, List, [], ◌∷◌, ◌++◌, refl, sym, ap, ◌∙◌, subst, inl, inr, ⊎_elim, arith}
+use Rattle.std.proofs.Common.{◌≡◌, ◌≢◌, ◌⊎◌, ℕ, ◌+◌, ◌<◌, ◌≤◌, ◌==◌, ◌||◌, Bool, true, false, if◌then◌else◌, List, [], ◌∷◌, refl, sym, ap, ◌∙◌, subst, inl, inr, ⊎_elim, arith}
 use Rattle.std.proofs.lemmas.Bool.Decides.{nat_tests}
 use mathlib.Core.Option as maybe
 use mathlib.Core.Logic.{dite}
@@ -9,7 +9,7 @@ use Rattle.pm3_core.specs.declared.events.Event.{Event}
 use Rattle.pm3_core.specs.Machine.{Machine, put, spot}
 use Rattle.pm3_history.specs.Entry.{Done}
 use Rattle.pm3_table.specs.Crew.{total}
-use Rattle.pm3_table.specs.Histories.{some_has, NoneHas, by}
+use Rattle.pm3_table.specs.Histories.{some_has, by}
 use Rattle.pm3_table.specs.Holds.{holds_of, spans_of, is_in}
 use Rattle.pm3_table.specs.Rows.{RowView, RowsRule, KnowsRow, row_with}
 use Rattle.pm3_table.specs.Units.{UnitView, UnitsRule, KnowsUnits}
@@ -23,7 +23,7 @@ use Rattle.pm3_table.proofs.Put.{put_at, put_here, put_else, put_cases, put_map}
 use Rattle.pm3_table.proofs.Totals.{total_put}
 use Rattle.pm3_table.proofs.UnitsKept.{unit_with}
 use Rattle.pm3_table.proofs.PagesKept.{yes_or_no, page_with}
-use Rattle.pm3_table.proofs.NamesKept.{name_with, count_with, live_low}
+use Rattle.pm3_table.proofs.NamesKept.{name_with, count_with}
 use Rattle.pm3_table.proofs.LostKept.{lost_with}
 
 not_test : (x n : ℕ) → x ≢ n + 1 → (x == n + 1) ≡ false
@@ -129,6 +129,7 @@ pages_enter empty spans pages frontier refers top used mark space holder history
           (λ _ _ _ e _. absurd (cc))
           (λ _ li. put_cases (λ v. v.live ≡ true → is_in p (crew i).pages ≡ true → is_in p v.pages ≡ true → i ≡ j) crew n w j (λ _ _ _ e. absurd (cc)) (λ _ lj. r.apart i j p li lj));
       named = r.named;
+      written = r.written;
     }
 
 pub names_enter : (makes : Done → ℕ → Bool) (first top : ℕ) (history : List Done) (crew : ℕ → NameView) → NamesRule makes first top history crew → (n : ℕ) → NamesRule makes first top history (put crew n (name_with []))

@@ -1,11 +1,10 @@
 -- The rule gives the laws.
-use Rattle.std.proofs.Common.{◌≡◌, ◌≢◌, ℕ, ◌+◌, ◌*◌, ◌<◌, true, false, List, [], ◌∷◌, ◌++◌, Option, Some, None, refl, sym, ap, ◌∙◌, subst, arith}
+use Rattle.std.proofs.Common.{◌≡◌, ◌≢◌, ℕ, ◌+◌, ◌<◌, false, List, [], ◌∷◌, ◌++◌, Option, Some, sym, ap, ◌∙◌, subst, arith}
 use mathlib.Core.Option.{some, none, some-injective, some-ne-none}
 use mathlib.Core.Logic.{dite}
 use native.Mathlib.Decide.{ℕ_discrete}
 use lib.ListN.{get_elem?}
 use Rattle.atomic_table.specs.Table.{State}
-use Rattle.pm3_core.specs.declared.events.TheConstants.{ROW_PLACES, PLACES}
 use Rattle.pm3_core.specs.Apart.{IsApart}
 use Rattle.pm3_core.specs.Machine.{Machine, spot}
 use Rattle.pm3_core.specs.Naming.{Names}
@@ -13,8 +12,6 @@ use Rattle.pm3_core.proofs.Kept.{reached_apart, cleared_unpinned}
 use Rattle.pm3_history.specs.Entry.{Done}
 use Rattle.pm3_table.specs.declared.view.Told.{Told}
 use Rattle.pm3_table.specs.declared.view.View.{View}
-use Rattle.pm3_table.specs.Crew.{Lives}
-use Rattle.pm3_table.specs.Deeds.{IsClearedIn, word_of, stands_of}
 use Rattle.pm3_table.specs.Holds.{is_in}
 use Rattle.pm3_table.specs.Laws.{ClearedUnnamed, OneHistory, DrawnApart}
 use Rattle.pm3_table.specs.Telling.{Good, names}

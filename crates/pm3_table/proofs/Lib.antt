@@ -2,6 +2,7 @@ pub mod Put
 pub mod Advances
 pub mod Totals
 pub mod Has
+pub mod Unnamed
 pub mod RowsKept
 pub mod UnitsKept
 pub mod PagesKept
@@ -20,6 +21,7 @@ pub mod Absorbs
 pub mod CountsAbsorb
 pub mod SeatSteps
 pub mod Opens
+pub mod SeenLawful
 pub mod RowCalls
 pub mod DrawCalls
 pub mod Carrying
@@ -28,3 +30,6 @@ pub mod Asked
 pub mod SeatCalls
 pub mod LawsKept
 pub mod Closes
+pub mod Known
+pub mod ReadsKept
+pub mod Gathered

@@ -1,18 +1,16 @@
 -- What steps leave of the part on names, and of the parts on whose commits are counted and on failed commits.
-use Rattle.std.proofs.Common.{◌≡◌, ◌≢◌, ◌⊎◌, ℕ, zero, suc, ◌+◌, ◌<◌, ◌≤◌, ◌==◌, ◌||◌, Bool, true, false, if◌then◌else◌, List, [], ◌∷◌, ◌++◌, refl, sym, ap, ◌∙◌, subst, inl, inr, ⊎_elim, arith}
+use Rattle.std.proofs.Common.{◌≡◌, ◌≢◌, ◌⊎◌, ℕ, ◌+◌, ◌<◌, ◌≤◌, ◌==◌, ◌||◌, Bool, true, false, if◌then◌else◌, List, [], ◌∷◌, ◌++◌, refl, sym, ap, ◌∙◌, subst, inl, inr, ⊎_elim, arith}
 use Rattle.std.proofs.lemmas.Bool.Decides.{nat_tests}
 use mathlib.Core.Logic.{dite}
 use native.Mathlib.Decide.{ℕ_discrete}
 use Rattle.pm3_core.specs.Machine.{put}
 use Rattle.pm3_history.specs.Entry.{Done}
 use Rattle.pm3_table.specs.declared.view.Kept.{Kept}
-use Rattle.pm3_table.specs.Histories.{some_has, by, AllBy, AllBelow}
+use Rattle.pm3_table.specs.Histories.{some_has, by, AllBy}
 use Rattle.pm3_table.specs.Holds.{is_in}
 use Rattle.pm3_table.specs.Names.{NameView, NamesRule, spare}
 use Rattle.pm3_table.specs.Counts.{CountView, counts, counted_under, is_kept, kept_under, Distinct, CountsRule}
-use Rattle.pm3_table.specs.Lost.{LostView, LostRule}
-use Rattle.pm3_table.specs.Lasts.{LastView, LastRule}
-use Rattle.pm3_table.proofs.Put.{put_at, put_here, put_else, put_cases}
+use Rattle.pm3_table.proofs.Put.{put_here, put_else, put_cases}
 use Rattle.pm3_table.proofs.PagesKept.{yes_or_no}
 use Rattle.pm3_table.proofs.Has.{has_one, none_join, by-append, by_all, by_others, below-append, below_by, below_higher}
 

@@ -1,33 +1,32 @@
 -- The table at its start meets the rule.
-use Rattle.std.proofs.Common.{◌≡◌, ◌≢◌, ◌⊎◌, ℕ, zero, suc, ◌+◌, ◌-◌, ◌^◌, ◌<◌, ◌≤◌, ◌==◌, ◌||◌, nat_lt, Bool, true, false, if◌then◌else◌, List, [], ◌∷◌, ◌++◌, length, get_or, replicate, map, min, Option, None, Some, refl, sym, ap, ◌∙◌, subst, inl, inr, ⊎_elim, arith}
+use Rattle.std.proofs.Common.{◌≡◌, ℕ, zero, suc, ◌+◌, ◌-◌, ◌<◌, ◌≤◌, ◌==◌, nat_lt, true, false, List, [], ◌∷◌, length, get_or, replicate, map, min, Option, None, Some, refl, sym, ap, ◌∙◌, subst, inl, ⊎_elim, arith}
 use Rattle.std.proofs.Math.ListN.{set}
 use Rattle.std.proofs.lemmas.Bool.Decides.{nat_tests}
-use mathlib.Core.Option.{some, some-injective, some-ne-none, none}
-use mathlib.Core.Logic.{dite}
-use native.Mathlib.Decide.{ℕ_discrete}
-use lib.ListN.{get_elem?, length-map, length-replicate, get_or-replicate}
+use mathlib.Core.Option.{some, some-injective, some-ne-none}
+use lib.ListN.{get_elem?, length-map, length-replicate}
 use Rattle.atomic_table.specs.Table as table
 use Rattle.atomic_table.proofs.Lists.{at_map}
-use Rattle.pm3_core.specs.declared.events.TheConstants.{PLACES, ROWS, ROW_PLACES}
+use Rattle.pm3_core.specs.declared.events.TheConstants.{PLACES}
 use Rattle.pm3_core.specs.Machine.{put, opening}
 use Rattle.pm3_core.proofs.Functions.{get_or-replicate_default}
 use Rattle.pm3_history.specs.Entry.{Done}
-use Rattle.pm3_history.specs.Opens.{LawfulFrom}
-use Rattle.pm3_core.specs.declared.naming.TheConstants.{BASE}
+use Rattle.pm3_history.specs.Opens.{Origin, LawfulFrom}
 use Rattle.pm3_table.specs.declared.view.Told.{Told}
 use Rattle.pm3_table.specs.declared.view.View.{View}
-use Rattle.pm3_table.specs.Crew.{Lives, Seated, total}
+use Rattle.pm3_table.specs.Crew.{Lives, total}
 use Rattle.pm3_table.specs.Holds.{is_in, holds_of}
-use Rattle.pm3_table.specs.Telling.{Lawful, limit, first, names, names_page, Good, spans_in, counted_in}
-use Rattle.pm3_table.specs.FirstHomes.{FirstHomes, IsTold}
-use Rattle.pm3_table.specs.Starting.{first_view, spent_view}
+use Rattle.pm3_table.specs.Telling.{Lawful, limit, first, names, Good, counted_in}
+use Rattle.pm3_table.specs.declared.marks.Marks4.{Marks4}
+use Rattle.pm3_table.specs.FirstHomes.{FirstHomes, IsTold, told_by, opening_in}
+use Rattle.pm3_table.specs.OpensBelow.{OpensBelow}
+use Rattle.pm3_table.specs.Starting.{told_of, first_view, spent_view}
 use Rattle.pm3_table.specs.Words.{Encodes, unit_at, counter_at, turn_unit, space_unit}
 use Rattle.pm3_table.specs.Draws.{drew, is_drawing}
 use Rattle.pm3_table.specs.Rows.{KnowsRow}
 use Rattle.pm3_table.specs.Units.{KnowsUnits}
 use Rattle.pm3_table.specs.Counts.{Distinct, counts, counted_under}
-use Rattle.pm3_table.specs.Rule.{Ruled, row_view, unit_view, page_view, draw_view, name_view, count_view, lost_view, last_view}
-use Rattle.pm3_table.proofs.Put.{put_at, put_here, put_else, put_cases, put_map}
+use Rattle.pm3_table.specs.Rule.{Ruled, unit_view, draw_view, count_view}
+use Rattle.pm3_table.proofs.Put.{put_at, put_here, put_cases, put_map}
 use Rattle.pm3_table.proofs.Totals.{total_put, total_none}
 use Rattle.pm3_table.proofs.Encoded.{encode_counter}
 use Rattle.pm3_table.proofs.Enters.{not_dead}
@@ -92,9 +91,9 @@ counts_own faults y is = grind (arith, nat_tests, is)
 module _ {V : Type 0} (stands : Told → List Done → List Done → ℕ → V → Type 0) (spans : V → List ℕ) (counted : V → ℕ) (told : Told) where
   pub opens : (ws : List ℕ) (homes : List (Option V)) (turn : V)
       → ws ≡ set (set (set (replicate (PLACES + (told.pages + 33) + 3) 0) (counter_at told.pages 0) told.frontier) (counter_at told.pages 1) told.next_name) (counter_at told.pages 2) 1
-      → FirstHomes stands spans told homes → IsTold told → get_elem? homes (turn_unit told.pages) ≡ some (Some turn)
+      → FirstHomes stands spans told homes → IsTold told → OpensBelow told → get_elem? homes (turn_unit told.pages) ≡ some (Some turn)
       → Ruled stands spans counted told (table.opening ws homes (first_view (counted turn)))
-  opens ws homes turn words first_homes bounds at_turn =
+  opens ws homes turn words first_homes bounds below at_turn =
       let v : View = first_view (counted turn) in
       let crew : ℕ → View = put (λ _. spent_view) 0 v in
       let here : crew 0 ≡ v = put_here (λ _. spent_view) 0 v in
@@ -157,6 +156,7 @@ module _ {V : Type 0} (stands : Told → List Done → List Done → ℕ → V �
           drawn = λ k live p is. absurd (not_dead ⊥ (ap (λ (y : View). is_in p y.pages) (sym (ap crew (only k live) ∙ here)) ∙ is) refl);
           apart = λ i j p li lj _ _. only i li ∙ sym (only j lj);
           named = λ p is. absurd (cc);
+          written = λ p is. absurd (cc);
         };
         draws = record {
           full = λ k live c is. absurd (not_dead ⊥ (ap (λ (y : View). is_in c y.filled) (sym (ap crew (only k live) ∙ here)) ∙ is) refl);
@@ -195,7 +195,7 @@ module _ {V : Type 0} (stands : Told → List Done → List Done → ℕ → V �
         };
         lasts = λ k live is. absurd (not_dead ⊥ (ap (λ (y : View). y.last) (sym (ap crew (only k live) ∙ here)) ∙ is) refl);
         lawful = (nothing_lawful told, nothing_lawful told);
-        bounds = (bounds.pages, bounds.frontier, bounds.name.1);
+        bounds = (bounds.pages, bounds.frontier, bounds.name.1, below);
       }
     where
       counter_0 : put (put (put (λ _. 0) 0 told.frontier) 1 told.next_name) 2 1 0 ≡ told.frontier
@@ -217,3 +217,44 @@ module _ {V : Type 0} (stands : Told → List Done → List Done → ℕ → V �
 
       own_first : (k : ℕ) → k ≡ 0 → put (λ _. spent_view) 0 (first_view (counted turn)) 0 ≡ first_view (counted turn) → counts 0 (count_view (put (λ _. spent_view) 0 (first_view (counted turn)) 0)) k ≡ true
       own_first k z e = ap (λ (x : View). counts 0 (count_view x) k) e ∙ ap (λ (i : ℕ). counts 0 (count_view (first_view (counted turn))) i) z
+
+-- the item that a list has at a place
+at_of : {A : Type 0} (xs : List A) (n : ℕ) (d : A) → n < length xs → get_elem? xs n ≡ some (get_or xs n d)
+at_of [] n d low = absurd (omega arith)
+at_of (y ∷ ys) zero d low = refl
+at_of (y ∷ ys) (suc n) d low = at_of ys n d (omega (arith, low))
+
+get_or_at : {A : Type 0} (xs : List A) (n : ℕ) (x d : A) → get_elem? xs n ≡ some x → get_or xs n d ≡ x
+get_or_at [] n x d e = absurd (some-ne-none x (sym e))
+get_or_at (y ∷ ys) zero x d e = some-injective y x e
+get_or_at (y ∷ ys) (suc n) x d e = get_or_at ys n x d e
+
+module _ {V : Type 0} (stands : Told → List Done → List Done → ℕ → V → Type 0) (spans : V → List ℕ) (counted : V → ℕ) (opening : V → Origin)
+    (marks : Marks4) (homes : List (Option V)) (first_homes : FirstHomes stands spans (told_by opening marks homes) homes) where
+  -- what was read at the turn's home
+  at_turn : (x : Option V) → x ≡ get_or homes (marks.pages + 32) x → get_elem? homes (marks.pages + 32) ≡ some x
+  at_turn x is = at_of homes (marks.pages + 32) x (let w = first_homes.wide in omega (arith, w)) ∙ ap (λ (y : Option V). some y) (sym is)
+
+  -- it is a value
+  pub turn_has : (x : Option V) → x ≡ get_or homes (marks.pages + 32) x → x ≡ None → ⊥
+  turn_has x is none_is =
+      let good = first_homes.good (marks.pages + 32) (omega arith) in
+      let same : good.0 ≡ None = some-injective good.0 None (sym good.1 ∙ (at_turn x is ∙ ap (λ (y : Option V). some y) none_is)) in
+      let none_good : Good stands (told_by opening marks homes) [] [] (marks.pages + 32) None = subst (λ (y : Option V). Good stands (told_by opening marks homes) [] [] (marks.pages + 32) y) same good.2 in
+      let low : marks.pages + 32 < marks.pages = none_good.0 in omega (arith, low)
+
+  -- the table is told by it
+  told_is : (turn : V) → get_elem? homes (marks.pages + 32) ≡ some (Some turn) → told_by opening marks homes ≡ told_of opening marks.pages marks.frontier marks.next_name turn
+  told_is turn at = ap (λ (x : Option V). record { pages = marks.pages; frontier = marks.frontier; next_name = marks.next_name; opening = opening_in opening x })
+      (get_or_at homes (marks.pages + 32) (Some turn) None at)
+
+  pub opens_by : (x : Option V) (turn : V) (ws : List ℕ) → x ≡ get_or homes (marks.pages + 32) x → x ≡ Some turn
+      → ws ≡ set (set (set (replicate (PLACES + (marks.pages + 33) + 3) 0) (counter_at marks.pages 0) marks.frontier) (counter_at marks.pages 1) marks.next_name) (counter_at marks.pages 2) marks.rows
+      → marks.rows ≡ 1 → IsTold (told_by opening marks homes) → OpensBelow (told_by opening marks homes)
+      → Ruled stands spans counted (told_of opening marks.pages marks.frontier marks.next_name turn) (table.opening ws homes (first_view (counted turn)))
+  opens_by x turn ws is value words one told below =
+      let at : get_elem? homes (marks.pages + 32) ≡ some (Some turn) = at_turn x is ∙ ap (λ (y : Option V). some y) value in
+      subst (λ (t : Told). Ruled stands spans counted t (table.opening ws homes (first_view (counted turn)))) (told_is turn at)
+      (opens stands spans counted (told_by opening marks homes) ws homes turn
+      (words ∙ ap (set (set (set (replicate (PLACES + (marks.pages + 33) + 3) 0) (counter_at marks.pages 0) marks.frontier) (counter_at marks.pages 1) marks.next_name) (counter_at marks.pages 2)) one)
+      first_homes told below at)

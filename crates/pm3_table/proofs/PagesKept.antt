@@ -1,5 +1,5 @@
 -- What steps leave of the part on pages and spaces.
-use Rattle.std.proofs.Common.{◌≡◌, ◌≢◌, ◌⊎◌, ℕ, zero, suc, ◌+◌, ◌-◌, ◌<◌, ◌≤◌, ◌==◌, ◌||◌, Bool, true, false, if◌then◌else◌, List, [], ◌∷◌, ◌++◌, length, refl, sym, ap, ◌∙◌, subst, inl, inr, ⊎_elim, arith}
+use Rattle.std.proofs.Common.{◌≡◌, ◌≢◌, ◌⊎◌, ℕ, ◌+◌, ◌-◌, ◌<◌, ◌≤◌, ◌==◌, ◌||◌, Bool, true, false, if◌then◌else◌, List, [], ◌∷◌, ◌++◌, length, refl, sym, ap, ◌∙◌, subst, inl, inr, ⊎_elim, arith}
 use Rattle.std.proofs.Math.ListN.{set}
 use Rattle.std.proofs.lemmas.Bool.Decides.{nat_tests}
 use mathlib.Core.Option.{Option, none, some, some-injective, some-ne-none}
@@ -13,11 +13,12 @@ use Rattle.pm3_table.specs.declared.view.Hold.{Hold}
 use Rattle.pm3_table.specs.declared.view.Hold.TheVariants.{Took, Gave}
 use Rattle.pm3_table.specs.declared.view.Span.{Span}
 use Rattle.pm3_table.specs.declared.view.Span.TheVariants.{Spread, Went}
+use Rattle.pm3_table.specs.Entries.{writes}
 use Rattle.pm3_table.specs.Histories.{some_has}
 use Rattle.pm3_table.specs.Holds.{holds_of, spans_of, is_in, without_number}
 use Rattle.pm3_table.specs.Pages.{PageView, PagesRule}
 use Rattle.pm3_table.specs.Words.{space_unit}
-use Rattle.pm3_table.proofs.Put.{put_at, put_here, put_else, put_cases}
+use Rattle.pm3_table.proofs.Put.{put_at, put_else, put_cases}
 use Rattle.pm3_table.proofs.Has.{has_one}
 
 -- the view of a mutator
@@ -68,6 +69,7 @@ module _ {S : Type 0} (empty : S) (spans : S → List ℕ) (pages frontier : ℕ
       drawn = r.drawn;
       apart = r.apart;
       named = r.named;
+      written = r.written;
     }
 
     -- a persistent page is used and unmarked
@@ -96,6 +98,7 @@ module _ {S : Type 0} (empty : S) (spans : S → List ℕ) (pages frontier : ℕ
       drawn = λ k live p is. let was = r.drawn k live p is in (was.0, was.1, omega (arith, was.2, up), was.3);
       apart = r.apart;
       named = r.named;
+      written = r.written;
     }
 
     module _ (k : ℕ) (alive : (crew k).live ≡ true) where
@@ -140,16 +143,18 @@ module _ {S : Type 0} (empty : S) (spans : S → List ℕ) (pages frontier : ℕ
             drawn = λ i. put_cases (λ v. v.live ≡ true → (p : ℕ) → is_in p v.pages ≡ true → (frontier ≤ p) × (p < pages) × (p < top) × (used p ≡ false)) crew k w i (λ _ _. r.drawn k alive) (λ _. r.drawn i);
             apart = same_apart w refl;
             named = r.named;
+            written = r.written;
           }
 
-      -- k gives the unit u back with x, and commits come that name used pages alone
+      -- k gives the unit u back with x, and commits come that name used pages and write persistent ones alone
       pub pages_give : (u : ℕ) (x : S) (more : List Done) → holder u ≡ k + 1 → u < length homes
           → ((j : ℕ) → j < 32 → space_unit pages j ≡ u → (p : ℕ) → is_in p (spans x) ≡ (space p == j + 1))
           → ((p : ℕ) → mark p ≢ 0 → space_unit pages (space p - 1) ≢ u)
           → ((p : ℕ) → some_has refers more p ≡ true → used p ≡ true)
+          → ((p : ℕ) → some_has writes more p ≡ true → (used p ≡ true) × (space p ≡ 0))
           → Rule top used mark space (put holder u 0) (history ++ more) (set homes u (some x))
           (put crew k (page_with (Gave u ∷ (crew k).holds) (crew k).spans (crew k).steady (crew k).pages))
-      pages_give u x more mine inside fits unmarked uses =
+      pages_give u x more mine inside fits unmarked uses persists =
           let w : PageView = page_with (Gave u ∷ (crew k).holds) (crew k).spans (crew k).steady (crew k).pages in
           let taken : holder u ≢ 0 = λ z. omega (arith, z, mine) in record {
             opened = r.opened;
@@ -172,6 +177,7 @@ module _ {S : Type 0} (empty : S) (spans : S → List ℕ) (pages frontier : ℕ
             drawn = λ i. put_cases (λ v. v.live ≡ true → (p : ℕ) → is_in p v.pages ≡ true → (frontier ≤ p) × (p < pages) × (p < top) × (used p ≡ false)) crew k w i (λ _ _. r.drawn k alive) (λ _. r.drawn i);
             apart = same_apart w refl;
             named = λ p is. ⊎_elim (r.named p) (uses p) (has_one refers history more p is);
+            written = λ p is. ⊎_elim (r.written p) (persists p) (has_one writes history more p is);
           }
 
       -- k draws the page at the counter
@@ -209,6 +215,7 @@ module _ {S : Type 0} (empty : S) (spans : S → List ℕ) (pages frontier : ℕ
                 (λ hj b. ⊎_elim (λ e. absurd (fresh i p (was_live w i li) a e)) (λ old. r.apart i k p (was_live w i li) alive a old ∙ sym hj) (now_in p b))
                 (λ oj b. r.apart i j p (was_live w i li) (was_live w j lj) a b));
             named = r.named;
+            written = r.written;
           }
 
       -- k knows one more page to be persistent
@@ -232,4 +239,5 @@ module _ {S : Type 0} (empty : S) (spans : S → List ℕ) (pages frontier : ℕ
             drawn = λ i. put_cases (λ v. v.live ≡ true → (p : ℕ) → is_in p v.pages ≡ true → (frontier ≤ p) × (p < pages) × (p < top) × (used p ≡ false)) crew k w i (λ _ _. r.drawn k alive) (λ _. r.drawn i);
             apart = same_apart w refl;
             named = r.named;
+            written = r.written;
           }

@@ -1,11 +1,11 @@
 -- What steps on row words, marks and page words ask, over a pass's fields.
-use Rattle.std.proofs.Common.{◌≡◌, ◌≢◌, ℕ, ◌+◌, ◌*◌, ◌<◌, ◌≤◌, ◌==◌, Bool, true, false, if◌then◌else◌, List, [], ◌∷◌, ◌++◌, length, get_or, Option, None, refl, sym, ap, ◌∙◌, subst, arith}
+use Rattle.std.proofs.Common.{◌≡◌, ◌≢◌, ℕ, ◌+◌, ◌<◌, ◌==◌, Bool, true, false, if◌then◌else◌, List, [], ◌∷◌, ◌++◌, get_or, Option, None, refl, sym, ap, ◌∙◌, arith}
 use Rattle.std.proofs.lemmas.Bool.Decides.{nat_tests}
-use mathlib.Core.Option.{none, some}
+use mathlib.Core.Option.{none}
 use mathlib.Core.Logic.{dite}
 use native.Mathlib.Decide.{ℕ_discrete}
-use Rattle.atomic_table.specs.Table.{State, Me, step, Act, keeps, takes, Allows}
-use Rattle.pm3_core.specs.declared.events.TheConstants.{ROWS, ROW_PLACES, PLACES}
+use Rattle.atomic_table.specs.Table.{State, Me, step, keeps, takes, Allows}
+use Rattle.pm3_core.specs.declared.events.TheConstants.{ROWS, ROW_PLACES}
 use Rattle.pm3_core.specs.Naming.{Names}
 use Rattle.pm3_core.specs.Machine.{spot}
 use Rattle.pm3_history.specs.Entry.{Done}
@@ -16,11 +16,12 @@ use Rattle.pm3_table.specs.Deeds.{word_of, marks_of}
 use Rattle.pm3_table.specs.Holds.{holds_of}
 use Rattle.pm3_table.specs.Ops.{did, refused, knew, settled_in, settled_held}
 use Rattle.pm3_table.specs.Settles.{MaySettle, unmark_log}
-use Rattle.pm3_table.specs.Telling.{names, HasInSpace, is_steady, knows_used}
+use Rattle.pm3_table.specs.Telling.{names, HasInSpace, is_steady, knows_used, mark_by}
 use Rattle.pm3_table.specs.Words.{unit_at, unit_word, mark_in, space_in, turn_unit, space_unit}
 use Rattle.pm3_table.specs.Rule.{Ruled}
 use Rattle.pm3_table.specs.Plays as play
-use Rattle.pm3_table.proofs.RowSteps.{stores, reads, own_word, validates, refuses, marks, unmarks, in_space, space_found}
+use Rattle.pm3_table.proofs.RowSteps.{stores, reads, own_word, validates, refuses, marks, unmarks, in_space, space_found, own_page, alone_page}
+use Rattle.pm3_table.proofs.SeenLawful.{seen_lawful}
 use Rattle.pm3_table.proofs.DrawSteps.{looks, draw_step, stays_same}
 use Rattle.pm3_table.proofs.UnitSteps.{steady_is}
 use Rattle.pm3_table.proofs.Settling.{settles_in, settles_held, not_held, at_home}
@@ -48,6 +49,15 @@ module _ {V : Type 0} (stands : Told → List Done → List Done → ℕ → V �
     tt,
     reads stands spans counted told s r id me.0 (seat, live) row place below low,
     (refl, λ own. ap (λ (k : ℕ). get_or s.words (spot k place) 0) own ∙ own_word stands spans counted told s r id me.0 (seat, live) place low),
+  ))
+
+  pub recall_call : (at : ℕ) (aim_told : Told) → at ≡ spot 0 0 → aim_told ≡ told → Allows Rule slots id me at (λ n. n) (play.recalls aim_told (step slots at 0 0 none) me)
+  recall_call at aim_told is aimed_told = rw (is, aimed_told) (λ s r deep seat fits. (
+    me.0,
+    keeps,
+    tt,
+    stays_same stands spans counted told s r id me.0 (seat, live) (spot 0 0),
+    (refl, seen_lawful stands spans counted told s r id me.0 (seat, live)),
   ))
 
   pub validate_call : (at aim_row aim place p : ℕ) → at ≡ unit_at p → aim_row ≡ place → aim ≡ p → place < ROW_PLACES → Names told.pages (word_of me.0.log place) p
@@ -89,20 +99,23 @@ module _ {V : Type 0} (stands : Told → List Done → List Done → ℕ → V �
         let found : space_in n ≡ r.space p = space_found stands spans counted told s r id me.0 (seat, live) p low in
         let of_space : (j : ℕ) → HasInSpace told me.0 j p → space_in n ≡ j + 1 = λ j has. found ∙ in_space stands spans counted told s r id me.0 (seat, live) j p has in
         let plain : is_steady told me.0 p ≡ true → space_in n ≡ 0 = λ is. found ∙ (steady_is stands spans counted told frame s r id me.0 (seat, live) p is).1 in
+        let own : (j : ℕ) → HasInSpace told me.0 j p → n ≡ unit_word 0 (mark_by me.0 p) (j + 1) = λ j has. own_page stands spans counted told s r id me.0 (seat, live) j p has in
+        let alone : is_steady told me.0 p ≡ true → holds_of me.0.holds p ≡ (n == me.0.row + 1) =
+        λ is. alone_page stands spans counted told s r id me.0 (seat, live) p low (steady_is stands spans counted told frame s r id me.0 (seat, live) p is).1 in
         dite (ℕ_discrete (space_in n) 0)
         (λ bare. (
           knew me.0 p,
           keeps,
           tt,
           looks stands spans counted told s r id me.0 (seat, live) frame alike p low knows bare,
-          (ap (λ (b : Bool). ((if b then knew me.0 p else me.0), me.1)) (sym (zero_test (space_in n) bare)), of_space, plain),
+          (ap (λ (b : Bool). ((if b then knew me.0 p else me.0), me.1)) (sym (zero_test (space_in n) bare)), of_space, plain, own, alone),
         ))
         (λ taken. (
           me.0,
           keeps,
           tt,
           stays_same stands spans counted told s r id me.0 (seat, live) (unit_at p),
-          (ap (λ (b : Bool). ((if b then knew me.0 p else me.0), me.1)) (sym (zero_not (space_in n) taken)), of_space, plain),
+          (ap (λ (b : Bool). ((if b then knew me.0 p else me.0), me.1)) (sym (zero_not (space_in n) taken)), of_space, plain, own, alone),
         )))
 
     pub settle_in_call : (at aim_row aim w j q : ℕ) → at ≡ unit_at q → aim_row ≡ space_unit told.pages j → aim ≡ q → w ≡ unit_word 0 0 (j + 1) → MaySettle told me.0 q → j < 32 → holds_of me.0.holds (space_unit told.pages j) ≡ true

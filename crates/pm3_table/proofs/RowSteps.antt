@@ -1,19 +1,15 @@
 -- Steps on row words and on marks keep the whole rule.
-use Rattle.std.proofs.Common.{◌≡◌, ◌≢◌, ◌⊎◌, ℕ, ◌+◌, ◌-◌, ◌*◌, ◌<◌, ◌≤◌, ◌==◌, Bool, true, false, if◌then◌else◌, List, [], ◌∷◌, ◌++◌, length, get_or, min, Option, None, refl, sym, ap, ◌∙◌, subst, inl, inr, ⊎_elim, arith}
+use Rattle.std.proofs.Common.{◌≡◌, ◌≢◌, ◌⊎◌, ℕ, ◌+◌, ◌-◌, ◌<◌, ◌==◌, Bool, true, false, if◌then◌else◌, List, ◌∷◌, get_or, min, Option, None, refl, sym, ap, ◌∙◌, subst, inl, inr, arith}
 use Rattle.std.proofs.Math.ListN.{set}
 use Rattle.std.proofs.lemmas.Bool.Decides.{nat_tests}
-use mathlib.Core.Option.{some}
 use mathlib.Core.Logic.{dite}
 use native.Mathlib.Decide.{ℕ_discrete}
-use lib.ListN.{get_elem?}
-use lib.Seq.{set-get_or}
 use Rattle.atomic_table.specs.Table.{State}
 use Rattle.pm3_core.specs.declared.events.TheConstants.{ROWS, ROW_PLACES, PLACES}
-use Rattle.pm3_core.specs.declared.events.Event.{Event}
 use Rattle.pm3_core.specs.declared.events.Event.TheVariants.{Store, Validate, Mark, Read, Unmark}
 use Rattle.pm3_core.specs.Naming.{Names}
 use Rattle.pm3_core.specs.Machine.{Machine, put, spot, stored, marked, read_off, names_unmarked, admits, effect}
-use Rattle.pm3_core.proofs.Names.{unmarked_is, unmarked_not, page_is}
+use Rattle.pm3_core.proofs.Names.{unmarked_is, unmarked_not}
 use Rattle.pm3_history.specs.Entry.{Done}
 use Rattle.pm3_table.specs.declared.view.Deed.{Deed}
 use Rattle.pm3_table.specs.declared.view.Deed.TheVariants.{Stored, Stood, Marked, Found, Unmarked}
@@ -21,11 +17,11 @@ use Rattle.pm3_table.specs.declared.view.Told.{Told}
 use Rattle.pm3_table.specs.declared.view.View.{View}
 use Rattle.pm3_table.specs.declared.view.Refusal.{Refusal}
 use Rattle.pm3_table.specs.Crew.{Lives, Seated}
-use Rattle.pm3_table.specs.Deeds.{word_of, stands_of, marks_of, reads_of}
+use Rattle.pm3_table.specs.Deeds.{word_of, marks_of}
 use Rattle.pm3_table.specs.Entries.{makes}
 use Rattle.pm3_table.specs.Holds.{holds_of, spans_of}
 use Rattle.pm3_table.specs.Ops.{did, refused}
-use Rattle.pm3_table.specs.Telling.{limit, first, names, names_page, Good, spans_in, counted_in, HasInSpace}
+use Rattle.pm3_table.specs.Telling.{limit, first, names, names_page, Good, spans_in, counted_in, mark_by, HasInSpace}
 use Rattle.pm3_table.specs.Words.{Encodes, unit_at, unit_word, mark_in, space_in, turn_unit, space_unit}
 use Rattle.pm3_table.specs.Rows.{RowView, RowsRule, KnowsRow, row_with, moves_of}
 use Rattle.pm3_table.specs.Pages.{PagesRule}
@@ -39,7 +35,7 @@ use Rattle.pm3_table.specs.Rule.{Ruled, row_view, unit_view, page_view, draw_vie
 use Rattle.pm3_table.proofs.Put.{put_at, put_else, put_cases, put_same}
 use Rattle.pm3_table.proofs.Advances.{seated_now, unchanged, altered}
 use Rattle.pm3_table.proofs.Encoded.{encode_same, encode_row, encode_unit, mark_read, space_read}
-use Rattle.pm3_table.proofs.RowsKept.{Frame, event_keeps, store_frame, store_knows, stood, stand_frame, stand_knows, same_frame, read_frame, read_knows, mark_frame, mark_knows, unmark_knows}
+use Rattle.pm3_table.proofs.RowsKept.{event_keeps, store_frame, store_knows, stood, stand_frame, stand_knows, same_frame, read_frame, read_knows, mark_frame, mark_knows, unmark_knows}
 use Rattle.pm3_table.proofs.PagesKept.{marks_part}
 
 may_mark : (pages k p : ℕ) (m : Machine) → k < 32 → p < pages → m.mark p ≡ 0 → admits pages m (Mark k p) ≡ true
@@ -56,6 +52,10 @@ equal_by a b e = grind (arith, nat_tests, e)
 
 pub equal_test : (a b : ℕ) → a ≡ b → (a == b) ≡ true
 equal_test a b e = grind (arith, nat_tests, e)
+
+mark_is : (m k : ℕ) (b : Bool) → b ≡ (m == k + 1) → (m ≢ 0 → m ≡ k + 1) → m ≡ (if b then k + 1 else 0)
+mark_is m k true is one = equal_by m (k + 1) (sym is)
+mark_is m k false is one = dite (ℕ_discrete m 0) (λ e. e) (λ o. absurd (let yes_it_is : (m == k + 1) ≡ true = equal_test m (k + 1) (one o) in cc))
 
 -- a part of the rule after a step of the seat, whose view there is now x
 pub at_view : (views : List View) (crew : ℕ → View) (seated : Seated views crew) (id : ℕ) (v w : View) → Lives views id v → w.live ≡ true → w.row ≡ v.row
@@ -213,6 +213,25 @@ module _ {V : Type 0} (stands : Told → List Done → List Done → ℕ → V �
         let same : holds_of (r.crew v.row).holds u ≡ (r.holder u == v.row + 1) = (r.units.known v.row here_lives).holds u in
         let mine : holds_of (r.crew v.row).holds u ≡ false = ap (λ (x : View). holds_of x.holds u) here_is ∙ holds in
         let yes_it_is : (r.holder u == v.row + 1) ≡ true = equal_test (r.holder u) (v.row + 1) is in cc
+
+    -- the word of a page of a space that the view holds
+    pub own_page : (j p : ℕ) → HasInSpace told v j p → get_or s.words (unit_at p) 0 ≡ unit_word 0 (mark_by v p) (j + 1)
+    own_page j p has =
+        let space : r.space p ≡ j + 1 = in_space j p has in
+        let vol = r.paged.volatile p (λ e. omega (arith, e, space)) in
+        let low : p < told.pages = (r.paged.low p vol.2).0 in
+        let owner : r.holder (space_unit told.pages (r.space p - 1)) ≡ v.row + 1 =
+        ap (λ (n : ℕ). r.holder (space_unit told.pages n)) (let e : r.space p - 1 ≡ j = omega (arith, space) in e) ∙ holds_unit (space_unit told.pages j) has.1 in
+        let mark : r.machine.mark p ≡ mark_by v p = mark_is (r.machine.mark p) v.row (marks_of v.log p) (knows_row.marks p) (λ o. sym (r.paged.marks p o).1 ∙ owner) in
+        r.words.units p (omega (arith, low)) ∙ (λ i. unit_word (vol.1 i) (mark i) (space i))
+
+    -- the word of a page without a space is its holder
+    pub alone_page : (p : ℕ) → p < told.pages → r.space p ≡ 0 → holds_of v.holds p ≡ (get_or s.words (unit_at p) 0 == v.row + 1)
+    alone_page p low space =
+        let mark : r.machine.mark p ≡ 0 = dite (ℕ_discrete (r.machine.mark p) 0) (λ e. e) (λ o. absurd ((r.paged.marks p o).0 space)) in
+        let word : get_or s.words (unit_at p) 0 ≡ r.holder p = r.words.units p (omega (arith, low)) ∙ omega (arith, mark, space) in
+        let same : holds_of (r.crew v.row).holds p ≡ (r.holder p == v.row + 1) = (r.units.known v.row here_lives).holds p in
+        ap (λ (x : View). holds_of x.holds p) (sym here_is) ∙ (same ∙ ap (λ (n : ℕ). n == v.row + 1) (sym word))
 
     -- a mark of a page of a space that the view holds
     pub marks : (j p : ℕ) → HasInSpace told v j p → marks_of v.log p ≡ false

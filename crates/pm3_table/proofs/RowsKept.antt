@@ -1,23 +1,18 @@
 -- What an event of one mutator leaves of the rows.
-use Rattle.std.proofs.Common.{◌≡◌, ◌≢◌, ◌⊎◌, ℕ, ◌+◌, ◌*◌, ◌<◌, ◌≤◌, ◌==◌, ◌&&◌, not, if◌then◌else◌, Bool, true, false, List, [], ◌∷◌, ◌++◌, append_assoc, map, refl, sym, ap, ◌∙◌, subst, inl, inr, ⊎_elim, arith}
-use Rattle.std.proofs.lemmas.Bool.{cases_eq}
+use Rattle.std.proofs.Common.{◌≡◌, ◌≢◌, ◌⊎◌, ℕ, ◌+◌, ◌<◌, ◌==◌, ◌&&◌, not, if◌then◌else◌, Bool, true, false, List, [], ◌∷◌, ◌++◌, append_assoc, refl, sym, ap, ◌∙◌, subst, ⊎_elim, arith}
 use Rattle.std.proofs.lemmas.Bool.Decides.{nat_tests}
-use Rattle.pm3_core.specs.declared.events.TheConstants.{ROWS, ROW_PLACES, PLACES}
+use Rattle.pm3_core.specs.declared.events.TheConstants.{ROWS, ROW_PLACES}
 use Rattle.pm3_core.specs.declared.events.Event.{Event}
 use Rattle.pm3_core.specs.declared.events.Event.TheVariants.{Store, Validate, Clear, Mark, Read, Move, Unmark}
-use Rattle.pm3_core.specs.Naming.{Names, names, page_in}
-use Rattle.pm3_core.specs.Machine.{Machine, opening, put, spot, stored, validated, marked, read_off, names_unmarked, admits, effect, after, run, reached}
-use Rattle.pm3_core.specs.Cleared.{Cleared, MovesCleared, IsStep, AllSteps}
+use Rattle.pm3_core.specs.Naming.{names}
+use Rattle.pm3_core.specs.Machine.{Machine, opening, put, spot, stored, marked, read_off, admits, effect, after, run}
+use Rattle.pm3_core.specs.Cleared.{Cleared, IsStep, AllSteps}
 use Rattle.pm3_core.proofs.Begins.{run-append}
-use Rattle.pm3_core.proofs.Names.{unmarked_is, unmarked_not}
-use Rattle.pm3_history.specs.Entry.{Done}
 use Rattle.pm3_table.specs.declared.view.Deed.{Deed}
 use Rattle.pm3_table.specs.declared.view.Deed.TheVariants.{Stored, Stood, Marked, Found, Unmarked}
-use Rattle.pm3_table.specs.Deeds.{word_of, stands_of, marks_of, reads_of, IsClearedIn}
-use Rattle.pm3_table.specs.Entries.{moved_of, touches}
-use Rattle.pm3_table.specs.Histories.{AllBy}
+use Rattle.pm3_table.specs.Deeds.{word_of, stands_of, marks_of, reads_of}
 use Rattle.pm3_table.specs.Holds.{is_in}
-use Rattle.pm3_table.specs.Rows.{RowView, row_with, KnowsRow, is_move, moves, moves_from, moves_of, RowsRule}
+use Rattle.pm3_table.specs.Rows.{RowView, row_with, KnowsRow, is_move, moves, moves_from, RowsRule}
 use Rattle.pm3_table.proofs.Put.{put_at, put_else, put_cases}
 
 -- what an event of mutator k leaves of the others' parts

@@ -1,6 +1,6 @@
 -- What splits and joins of seats ask, over passes' fields.
-use Rattle.std.proofs.Common.{◌≡◌, ◌≢◌, ℕ, ◌<◌, true, false, List, [], ◌∷◌, ◌++◌, Option, None, refl, sym, ap, ◌∙◌, subst}
-use Rattle.atomic_table.specs.Table.{State, Splits, Joins}
+use Rattle.std.proofs.Common.{◌≡◌, ℕ, true, List, [], Option, refl, sym, subst}
+use Rattle.atomic_table.specs.Table.{Splits, Joins}
 use Rattle.pm3_history.specs.Entry.{Done}
 use Rattle.pm3_table.specs.declared.view.Told.{Told}
 use Rattle.pm3_table.specs.declared.view.View.{View}

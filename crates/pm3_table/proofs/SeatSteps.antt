@@ -1,18 +1,15 @@
 -- A seat is split, and two are joined.
-use Rattle.std.proofs.Common.{◌≡◌, ◌≢◌, ◌⊎◌, ℕ, zero, suc, ◌+◌, ◌<◌, ◌≤◌, ◌==◌, Bool, true, false, if◌then◌else◌, List, [], ◌∷◌, ◌++◌, length, length-append, min, max, Option, None, refl, sym, ap, ◌∙◌, subst, inl, inr, ⊎_elim, arith}
+use Rattle.std.proofs.Common.{◌≡◌, ◌≢◌, ◌⊎◌, ℕ, zero, suc, ◌+◌, ◌<◌, true, false, List, [], ◌∷◌, ◌++◌, length, length-append, min, max, Option, None, refl, sym, ap, ◌∙◌, subst, inl, inr, ⊎_elim, arith}
 use Rattle.std.proofs.Math.ListN.{set}
 use Rattle.std.proofs.lemmas.Bool.Decides.{nat_tests}
 use mathlib.Core.Option.{some, some-injective, some-ne-none}
-use mathlib.Core.Logic.{dite}
-use native.Mathlib.Decide.{ℕ_discrete}
 use lib.ListN.{get_elem?}
 use Rattle.atomic_table.specs.Table.{State}
-use Rattle.atomic_table.proofs.Lists.{at_set, at_longer, at_last, at_snoc, set_else}
+use Rattle.atomic_table.proofs.Lists.{at_set, at_longer, at_last, set_else}
 use Rattle.pm3_core.specs.Machine.{put}
 use Rattle.pm3_history.specs.Entry.{Done}
 use Rattle.pm3_table.specs.declared.view.Told.{Told}
 use Rattle.pm3_table.specs.declared.view.View.{View}
-use Rattle.pm3_table.specs.declared.view.Kept.{Kept}
 use Rattle.pm3_table.specs.Crew.{Lives, Seated}
 use Rattle.pm3_table.specs.Deeds.{word_of, marks_of}
 use Rattle.pm3_table.specs.Entries.{makes}
@@ -20,25 +17,24 @@ use Rattle.pm3_table.specs.Holds.{is_in, holds_of}
 use Rattle.pm3_table.specs.Names.{NameView, NamesRule}
 use Rattle.pm3_table.specs.Telling.{limit, first, names, names_page, Good, spans_in, counted_in}
 use Rattle.pm3_table.specs.Words.{turn_unit}
-use Rattle.pm3_table.specs.Rows.{RowsRule, row_with, moves_of}
+use Rattle.pm3_table.specs.Rows.{RowsRule, moves_of}
 use Rattle.pm3_table.specs.Pages.{PageView, PagesRule}
 use Rattle.pm3_table.specs.Units.{UnitView, UnitsRule}
-use Rattle.pm3_table.specs.Draws.{DrawView, DrawsRule, drew, is_drawing}
+use Rattle.pm3_table.specs.Draws.{DrawsRule, drew, is_drawing}
 use Rattle.pm3_table.specs.Counts.{CountView, CountsRule}
 use Rattle.pm3_table.specs.Lost.{LostView, LostRule}
 use Rattle.pm3_table.specs.Lasts.{LastView, LastRule}
 use Rattle.pm3_table.specs.Starting.{spent_view}
-use Rattle.pm3_table.specs.Seats.{left_view, new_view, both_views, longer, IsBlank}
+use Rattle.pm3_table.specs.Seats.{new_view, both_views, beyond, IsBlank}
 use Rattle.pm3_table.specs.Rule.{Ruled, row_view, unit_view, page_view, draw_view, name_view, count_view, lost_view, last_view}
-use Rattle.pm3_table.proofs.Put.{put_at, put_here, put_else, put_cases, put_map, put_same}
-use Rattle.pm3_table.proofs.Advances.{seated_now, inside}
+use Rattle.pm3_table.proofs.Put.{put_at, put_else, put_cases, put_map, put_same}
+use Rattle.pm3_table.proofs.Advances.{seated_now}
 use Rattle.pm3_table.proofs.RowSteps.{equal_test, here_is, here_lives, row_low}
 use Rattle.pm3_table.proofs.UnitsKept.{unit_with}
 use Rattle.pm3_table.proofs.PagesKept.{page_with}
-use Rattle.pm3_table.proofs.NamesKept.{name_with, count_with}
-use Rattle.pm3_table.proofs.LostKept.{lost_with}
+use Rattle.pm3_table.proofs.NamesKept.{count_with}
 use Rattle.pm3_table.proofs.Enters.{not_dead, rows_enter, units_enter, pages_enter, draws_two, names_enter, counts_enter, lost_enter}
-use Rattle.pm3_table.proofs.Absorbs.{rows_leave, units_absorb, pages_absorb, names_absorb, lost_absorb, in_either}
+use Rattle.pm3_table.proofs.Absorbs.{rows_leave, units_absorb, longer, longer_is, pages_absorb, names_absorb, lost_absorb, in_either}
 use Rattle.pm3_table.proofs.CountsAbsorb.{counts_absorb}
 
 first_there : (n : ℕ) (xs : List ℕ) → is_in n (n ∷ xs) ≡ true
@@ -206,6 +202,10 @@ module _ {V : Type 0} (stands : Told → List Done → List Done → ℕ → V �
         let other_lives : (r.crew n).live ≡ true = ap (λ (y : View). y.live) there ∙ lives_x in
         let apart : k ≢ n = λ e. not_id (r.seated.apart other id x v lx l (sym e)) in
         let seated1 = seated_now s.views r.crew r.seated id v w l live refl in
+        let mine = r.units.known k alive in let theirs = r.units.known n other_lives in
+        let both_seen : v.seen ++ beyond v.seen x.seen ≡ longer v.seen x.seen =
+        longer_is r.history v.seen mine.after x.seen theirs.after (mine.is ∙ ap (λ (y : View). y.seen ++ mine.after) here) (theirs.is ∙ ap (λ (y : View). y.seen ++ theirs.after) there)
+        in
         let away : r.holder turn ≢ n + 1 = λ is. not_dead ⊥ ((r.units.known n other_lives).holds turn ∙ equal_test (r.holder turn) (n + 1) is) (ap (λ (y : View). holds_of y.holds turn) there ∙ blank.holds turn) in
         record {
           crew = put (put r.crew k w) n spent_view;
@@ -223,7 +223,8 @@ module _ {V : Type 0} (stands : Told → List Done → List Done → ℕ → V �
               (λ p. ap (λ (y : View). marks_of y.log p) there ∙ blank.marks p) (λ q b. ap (λ (y : View). word_of y.log q) there ∙ blank.row q b));
           units = two_views r.crew k n w spent_view unit_view (UnitsRule (Good stands told r.lost) (counted_in counted) turn (names told) r.holder r.history s.homes)
               (subst (λ (y : UnitView). UnitsRule (Good stands told r.lost) (counted_in counted) turn (names told) r.holder r.history s.homes (put (put (λ j. unit_view (r.crew j)) k y) n (unit_view spent_view)))
-              (λ i. record { live = sym l.1 i; holds = (here i).holds; seen = longer (here i).seen (there i).seen; faults = max (here i).faults (there i).faults })
+              ((λ i. record { live = sym l.1 i; holds = (here i).holds; seen = longer (here i).seen (there i).seen; faults = max (here i).faults (there i).faults })
+              ∙ (λ i. record { live = v.live; holds = v.holds; seen = sym both_seen i; faults = max v.faults x.faults }))
               (units_absorb (Good stands told r.lost) (counted_in counted) turn (names told) r.holder r.history s.homes (λ j. unit_view (r.crew j)) r.units k n apart alive other_lives (λ u. ap (λ (y : View). holds_of y.holds u) there ∙ blank.holds u) (unit_view spent_view) refl));
           paged = two_views r.crew k n w spent_view page_view (PagesRule None (spans_in spans) told.pages told.frontier (names_page told) (r.counter 0) r.used r.machine.mark r.space r.holder r.history s.homes)
               (subst (λ (y : PageView). PagesRule None (spans_in spans) told.pages told.frontier (names_page told) (r.counter 0) r.used r.machine.mark r.space r.holder r.history s.homes (put (put (λ j. page_view (r.crew j)) k y) n (page_view spent_view)))

@@ -1,23 +1,18 @@
 -- What a settling leaves of the part on pages and spaces, and of the part on units.
-use Rattle.std.proofs.Common.{◌≡◌, ◌≢◌, ◌⊎◌, ℕ, zero, suc, ◌+◌, ◌-◌, ◌<◌, ◌≤◌, ◌==◌, ◌||◌, Bool, true, false, if◌then◌else◌, List, [], ◌∷◌, ◌++◌, length, length-set, refl, sym, ap, ◌∙◌, subst, inl, inr, ⊎_elim, arith}
-use Rattle.std.proofs.Math.ListN.{set}
+use Rattle.std.proofs.Common.{◌≡◌, ◌≢◌, ◌⊎◌, ℕ, ◌+◌, ◌-◌, ◌<◌, ◌≤◌, ◌==◌, Bool, true, false, if◌then◌else◌, List, ◌∷◌, refl, sym, ap, ◌∙◌, subst, inl, inr, ⊎_elim, arith}
 use Rattle.std.proofs.lemmas.Bool.Decides.{nat_tests}
 use mathlib.Core.Option.{Option, none, some, some-injective, some-ne-none}
 use mathlib.Core.Logic.{dite}
 use native.Mathlib.Decide.{ℕ_discrete}
 use lib.ListN.{get_elem?}
-use Rattle.atomic_table.proofs.Lists.{set_here, set_else}
 use Rattle.pm3_core.specs.Machine.{put}
 use Rattle.pm3_history.specs.Entry.{Done}
 use Rattle.pm3_table.specs.declared.view.Hold.{Hold}
-use Rattle.pm3_table.specs.declared.view.Hold.TheVariants.{Took, Gave}
-use Rattle.pm3_table.specs.declared.view.Span.{Span}
-use Rattle.pm3_table.specs.declared.view.Span.TheVariants.{Spread, Went}
-use Rattle.pm3_table.specs.Histories.{some_has}
+use Rattle.pm3_table.specs.declared.view.Span.TheVariants.{Went}
 use Rattle.pm3_table.specs.Holds.{holds_of, spans_of, is_in, without_number}
 use Rattle.pm3_table.specs.Pages.{PageView, PagesRule}
 use Rattle.pm3_table.specs.Words.{space_unit}
-use Rattle.pm3_table.proofs.Put.{put_at, put_here, put_else, put_cases}
+use Rattle.pm3_table.proofs.Put.{put_at, put_else, put_cases}
 use Rattle.pm3_table.proofs.PagesKept.{page_with, in_without}
 
 -- the number that `Went` has for a space's number plus one
@@ -96,4 +91,5 @@ module _ {S : Type 0} (empty : S) (spans : S → List ℕ) (pages frontier : ℕ
             (λ here is. ap (λ (m : ℕ). is_in p (crew m).pages) here ∙ (in_without p q (crew k).pages is).1) (λ _ is. is) in
             r.apart i j p (was_live i li) (was_live j lj) (old i a) (old j b);
         named = λ p is. put_cases (λ b. b ≡ true) used q true p (λ _. refl) (λ _. r.named p is);
+        written = λ p is. let was = r.written p is in let o = not_steady p was in (put_else used q true p o ∙ was.0, put_else space q z p o ∙ was.1);
       }

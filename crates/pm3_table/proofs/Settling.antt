@@ -1,5 +1,5 @@
 -- A page that was drawn, or one of a held space, is settled.
-use Rattle.std.proofs.Common.{◌≡◌, ◌≢◌, ◌⊎◌, ℕ, zero, suc, ◌+◌, ◌-◌, ◌*◌, ◌<◌, ◌≤◌, ◌==◌, ◌||◌, ◌&&◌, Bool, true, false, if◌then◌else◌, List, [], ◌∷◌, ◌++◌, length, get_or, min, Option, None, Some, refl, sym, ap, ◌∙◌, subst, inl, inr, ⊎_elim, arith}
+use Rattle.std.proofs.Common.{◌≡◌, ◌≢◌, ◌⊎◌, ℕ, ◌+◌, ◌-◌, ◌<◌, ◌≤◌, ◌==◌, Bool, true, false, if◌then◌else◌, List, [], ◌∷◌, ◌++◌, min, Option, None, refl, sym, ap, ◌∙◌, subst, inl, inr, ⊎_elim, arith}
 use Rattle.std.proofs.Math.ListN.{set}
 use Rattle.std.proofs.lemmas.Bool.Decides.{nat_tests}
 use mathlib.Core.Option.{none, some, some-injective}
@@ -11,23 +11,22 @@ use Rattle.atomic_table.proofs.Lists.{set_else}
 use Rattle.pm3_core.specs.declared.events.Event.TheVariants.{Unmark}
 use Rattle.pm3_core.specs.Machine.{Machine, put, marked}
 use Rattle.pm3_history.specs.Entry.{Done}
-use Rattle.pm3_table.specs.declared.view.Deed.{Deed}
 use Rattle.pm3_table.specs.declared.view.Deed.TheVariants.{Unmarked}
 use Rattle.pm3_table.specs.declared.view.Hold.TheVariants.{Took}
 use Rattle.pm3_table.specs.declared.view.Span.TheVariants.{Went}
 use Rattle.pm3_table.specs.declared.view.Told.{Told}
 use Rattle.pm3_table.specs.declared.view.View.{View}
-use Rattle.pm3_table.specs.Crew.{Lives, Seated}
+use Rattle.pm3_table.specs.Crew.{Lives}
 use Rattle.pm3_table.specs.Deeds.{marks_of}
 use Rattle.pm3_table.specs.Entries.{makes}
 use Rattle.pm3_table.specs.Histories.{NoneHas}
-use Rattle.pm3_table.specs.Holds.{holds_of, spans_of, is_in, without_number}
+use Rattle.pm3_table.specs.Holds.{holds_of, is_in, without_number}
 use Rattle.pm3_table.specs.Names.{NamesRule}
 use Rattle.pm3_table.specs.Ops.{settled_in, settled_held}
 use Rattle.pm3_table.specs.Settles.{unmark_log, MaySettle}
-use Rattle.pm3_table.specs.Telling.{limit, first, names, names_page, Good, spans_in, counted_in, HasInSpace}
+use Rattle.pm3_table.specs.Telling.{limit, first, names, names_page, Good, spans_in, counted_in}
 use Rattle.pm3_table.specs.Words.{Encodes, unit_at, unit_word, turn_unit, space_unit}
-use Rattle.pm3_table.specs.Rows.{RowView, RowsRule, KnowsRow, row_with, moves_of}
+use Rattle.pm3_table.specs.Rows.{RowView, RowsRule, row_with, moves_of}
 use Rattle.pm3_table.specs.Pages.{PagesRule}
 use Rattle.pm3_table.specs.Units.{UnitsRule}
 use Rattle.pm3_table.specs.Draws.{DrawsRule}
@@ -35,11 +34,11 @@ use Rattle.pm3_table.specs.Counts.{CountsRule}
 use Rattle.pm3_table.specs.Lost.{LostRule}
 use Rattle.pm3_table.specs.Lasts.{LastRule}
 use Rattle.pm3_table.specs.Rule.{Ruled, row_view, unit_view, page_view, draw_view, name_view, count_view, lost_view, last_view}
-use Rattle.pm3_table.proofs.Put.{put_at, put_here, put_else, put_cases, put_same}
+use Rattle.pm3_table.proofs.Put.{put_at, put_else, put_same}
 use Rattle.pm3_table.proofs.Advances.{seated_now, unchanged}
 use Rattle.pm3_table.proofs.Encoded.{encode_unit}
 use Rattle.pm3_table.proofs.RowsKept.{event_keeps, mark_frame, unmark_knows}
-use Rattle.pm3_table.proofs.RowSteps.{equal_by, equal_test, may_unmark, at_view, here_is, here_lives, row_low, knows_row, holds_unit, holds_not, in_space}
+use Rattle.pm3_table.proofs.RowSteps.{equal_by, equal_test, may_unmark, at_view, here_is, here_lives, row_low, knows_row, holds_unit, in_space}
 use Rattle.pm3_table.proofs.UnitsKept.{unit_with, holds_part}
 use Rattle.pm3_table.proofs.UnitSteps.{good_frame}
 use Rattle.pm3_table.proofs.PagesKept.{yes_or_no, page_with}

@@ -1,7 +1,7 @@
 -- The turn is given back, with commits that join the history and others that failed.
 use Rattle.std.proofs.Common.{◌≡◌, ◌≢◌, ◌⊎◌, ℕ, zero, suc, ◌+◌, ◌-◌, ◌*◌, ◌<◌, ◌≤◌, ◌==◌, ◌||◌, ◌&&◌, not, Bool, true, false, if◌then◌else◌, List, [], ◌∷◌, ◌++◌, append_assoc, length, get_or, map, min, Option, None, Some, refl, sym, ap, ◌∙◌, subst, inl, inr, ⊎_elim, arith}
+use Rattle.std.proofs.Math.Bool.{or-true}
 use Rattle.std.proofs.Math.ListN as list
-use Rattle.std.proofs.lemmas.Bool.Decides.{nat_tests}
 use Rattle.std.specs.List.{list_any}
 use Rattle.std.specs.FinSet as set
 use mathlib.Core.Option as maybe
@@ -10,7 +10,7 @@ use mathlib.Core.Logic.{dite}
 use native.Mathlib.Decide.{ℕ_discrete}
 use lib.ListN.{get_elem?}
 use Rattle.atomic_table.specs.Table.{State}
-use Rattle.pm3_core.specs.declared.events.TheConstants.{PLACES, ROWS}
+use Rattle.pm3_core.specs.declared.events.TheConstants.{ROWS}
 use Rattle.pm3_core.specs.declared.events.Event.{Event}
 use Rattle.pm3_core.specs.Naming.{page_in}
 use Rattle.pm3_core.specs.Machine.{Machine, put}
@@ -21,14 +21,14 @@ use Rattle.pm3_table.specs.declared.view.Told.{Told}
 use Rattle.pm3_table.specs.declared.view.View.{View}
 use Rattle.pm3_table.specs.Crew.{Lives, Seated}
 use Rattle.pm3_table.specs.Deeds.{marks_of, reads_of, IsClearedIn}
-use Rattle.pm3_table.specs.Entries.{makes, touches, moved_of, moved_by, touched_by}
+use Rattle.pm3_table.specs.Entries.{makes, touches, moved_of, moved_by, touched_by, writes}
 use Rattle.pm3_table.specs.Histories.{some_has, NoneHas, by, AllBy}
 use Rattle.pm3_table.specs.Holds.{holds_of, spans_of, is_in}
 use Rattle.pm3_table.specs.Names.{NamesRule, spare}
 use Rattle.pm3_table.specs.Ops.{turned}
-use Rattle.pm3_table.specs.Telling.{limit, first, names, names_page, NoneNames, Lawful, Good, spans_in, counted_in, is_steady, in_some_space, knows_used, IsSound, MayJoin, HasInSpace}
-use Rattle.pm3_table.specs.Words.{Encodes, unit_at, unit_word, turn_unit, space_unit}
-use Rattle.pm3_table.specs.Rows.{RowView, RowsRule, row_with, moves_from, moves_of}
+use Rattle.pm3_table.specs.Telling.{NoneNames, limit, first, names, names_page, Lawful, Good, spans_in, counted_in, is_steady, in_some_space, knows_used, MayJoin}
+use Rattle.pm3_table.specs.Words.{Encodes, unit_at, turn_unit, space_unit}
+use Rattle.pm3_table.specs.Rows.{RowView, RowsRule, moves_from, moves_of}
 use Rattle.pm3_table.specs.Pages.{PagesRule}
 use Rattle.pm3_table.specs.Units.{UnitView, UnitsRule}
 use Rattle.pm3_table.specs.Draws.{DrawsRule}
@@ -36,17 +36,34 @@ use Rattle.pm3_table.specs.Counts.{CountsRule}
 use Rattle.pm3_table.specs.Lost.{LostRule}
 use Rattle.pm3_table.specs.Lasts.{LastRule}
 use Rattle.pm3_table.specs.Rule.{Ruled, row_view, unit_view, page_view, draw_view, name_view, count_view, lost_view, last_view}
-use Rattle.pm3_table.proofs.Put.{put_at, put_here, put_else, put_cases, put_same}
+use Rattle.pm3_table.proofs.Put.{put_here, put_same}
 use Rattle.pm3_table.proofs.Has.{has_left, own_front}
 use Rattle.pm3_table.proofs.Advances.{seated_now, unchanged}
 use Rattle.pm3_table.proofs.Encoded.{encode_unit}
 use Rattle.pm3_table.proofs.RowsKept.{moves_part}
-use Rattle.pm3_table.proofs.RowSteps.{equal_by, equal_test, at_view, here_is, here_lives, row_low, knows_row, holds_unit, holds_not, in_space}
+use Rattle.pm3_table.proofs.RowSteps.{equal_by, at_view, here_is, here_lives, row_low, knows_row, holds_unit, in_space}
 use Rattle.pm3_table.proofs.UnitsKept.{unit_with, gives_part}
-use Rattle.pm3_table.proofs.PagesKept.{yes_or_no, page_with, pages_give, not_marked}
+use Rattle.pm3_table.proofs.PagesKept.{yes_or_no, page_with, pages_give, held_page, not_marked}
 use Rattle.pm3_table.proofs.NamesKept.{name_with, names_join, count_with, counts_join}
 use Rattle.pm3_table.proofs.LostKept.{lost_with, lost_give}
 use Rattle.pm3_table.proofs.UnitSteps.{good_frame, steady_is}
+
+-- a page that a commit writes is a unit that it names, and one that its images name
+either_more : (a b c d : Bool) → (a ≡ true → c ≡ true) → (b ≡ true → d ≡ true) → (a || b) ≡ true → (c || d) ≡ true
+either_more true b c d f g e = ap (λ (x : Bool). x || d) (f refl)
+either_more false true c d f g e = ap (λ (x : Bool). c || x) (g refl) ∙ or-true c
+either_more false false c d f g e = absurd (cc)
+
+some_none : (b : Bool) → b ≡ true → b ≡ false → ⊥
+some_none b yes_it no_it = absurd (cc)
+
+written_names : (told : Told) (p : ℕ) (h : List Done) → some_has writes h p ≡ true → some_has (names told) h p ≡ true
+written_names told p [] is = is
+written_names told p (e ∷ es) is = either_more (writes e p) (some_has writes es p) (names told e p) (some_has (names told) es p) (λ w. grind (arith, w)) (written_names told p es) is
+
+written_named : (told : Told) (p : ℕ) (h : List Done) → some_has writes h p ≡ true → some_has (names_page told) h p ≡ true
+written_named told p [] is = is
+written_named told p (e ∷ es) is = either_more (writes e p) (some_has writes es p) (names_page told e p) (some_has (names_page told) es p) (λ w. grind (arith, w)) (written_named told p es) is
 
 -- the moves of a longer history
 moves-append : (h more : List Done) → moves_of (h ++ more) ≡ moves_of h ++ moves_of more
@@ -142,6 +159,7 @@ module _ {V : Type 0} (stands : Told → List Done → List Done → ℕ → V �
 
     -- what the view knows to be used is
     pub used_is : (p : ℕ) → knows_used told v p ≡ true → r.used p ≡ true
+    unfolding knows_used
     used_is p is = three (is_steady told v p) (in_some_space told v 32 p) (some_has (names_page told) v.seen p)
         (λ a. (steady_is stands spans counted told frame s r id v l p a).0)
         (some_space 32 p (omega arith))
@@ -154,6 +172,16 @@ module _ {V : Type 0} (stands : Told → List Done → List Done → ℕ → V �
         three true b c x y z e = x refl
         three false true c x y z e = y refl
         three false false c x y z e = z e
+
+    -- the pages that commits of this view write are those that it holds
+    persists : (p : ℕ) (more : List Done) → ((u : ℕ) → holds_of v.holds u ≡ false → NoneNames told more u)
+        → ((q : ℕ) → some_has (names_page told) more q ≡ true → knows_used told v q ≡ true)
+        → some_has writes more p ≡ true → (r.used p ≡ true) × (r.space p ≡ 0)
+    persists p more held uses is =
+        let low = (r.paged.low p (used_is p (uses p (written_named told p more is)))).0 in
+        let mine : r.holder p ≡ v.row + 1 = holds_unit stands spans counted told s r id v l p
+        (⊎_elim (λ y. y) (λ n. absurd (some_none (some_has (names told) more p) (written_names told p more is) (held p n))) (yes_or_no (holds_of v.holds p))) in
+        held_page None (spans_in spans) told.pages told.frontier (names_page told) (r.counter 0) r.used r.machine.mark r.space r.holder r.history s.homes (λ k. page_view (r.crew k)) r.paged p low (λ z. omega (arith, z, mine))
 
     pub gives_turn : (x : Option V) (more failed : List Done) → holds_of v.holds turn ≡ true
         → Good stands told (v.lost ++ failed) (v.seen ++ more) turn x → v.faults ≤ counted_in counted x → MayJoin told v more failed
@@ -208,7 +236,8 @@ module _ {V : Type 0} (stands : Told → List Done → List Done → ℕ → V �
               turn x more mine (omega (arith, r.units.deep))
               (λ j below at p. absurd (omega (arith, at, below)))
               (λ p is at. let a = (r.paged.volatile p (r.paged.marks p is).0).0 in let b = (r.paged.marks p is).0 in omega (arith, at, a, b))
-              (λ p is. used_is p (may.used p is)));
+              (λ p is. used_is p (may.used p is))
+              (λ p is. persists p more may.held may.used is));
           draws = unchanged s.views r.crew seated id v w l live refl draw_view (DrawsRule (limit told) (first told) r.counter) refl r.draws;
           named = at_view s.views r.crew seated id v w l live refl name_view (NamesRule makes told.next_name (r.counter 1) (r.history ++ more))
               (name_with (spare (some_has makes more) (r.crew v.row).names)) (λ i. record { live = sym live i; names = spare (some_has makes more) (here i).names })

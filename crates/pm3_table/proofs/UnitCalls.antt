@@ -1,5 +1,5 @@
 -- What steps on units ask, over a pass's fields.
-use Rattle.std.proofs.Common.{◌≡◌, ◌≢◌, ℕ, ◌+◌, ◌*◌, ◌<◌, ◌≤◌, ◌==◌, Bool, true, false, List, [], ◌∷◌, ◌++◌, length, get_or, set, eqb, Option, None, Some, refl, sym, ap, ◌∙◌, subst, arith}
+use Rattle.std.proofs.Common.{◌≡◌, ◌≢◌, ℕ, ◌+◌, ◌<◌, ◌≤◌, true, false, List, [], ◌∷◌, ◌++◌, get_or, set, eqb, Option, None, Some, refl, sym, ap, ◌∙◌, subst, arith}
 use mathlib.Core.Option as maybe
 use mathlib.Core.Option.{none, some}
 use prog.Atomic.{either}
@@ -13,9 +13,9 @@ use Rattle.pm3_table.specs.declared.view.View.{View}
 use Rattle.pm3_table.specs.Crew.{Lives}
 use Rattle.pm3_table.specs.Deeds.{marks_of}
 use Rattle.pm3_table.specs.Holds.{holds_of, spans_of, is_in}
-use Rattle.pm3_table.specs.Carried.{Carries, slots_in, dropped}
+use Rattle.pm3_table.specs.Carried.{Carries}
 use Rattle.pm3_table.specs.Ops.{refused, took, gave, turned}
-use Rattle.pm3_table.specs.Telling.{names, NoneNames, Good, spans_in, counted_in, is_steady, IsSound, MayJoin}
+use Rattle.pm3_table.specs.Telling.{names, Good, spans_in, counted_in, is_steady, MayJoin}
 use Rattle.pm3_table.specs.Words.{unit_at, turn_unit}
 use Rattle.pm3_table.specs.Rule.{Ruled}
 use Rattle.pm3_table.specs.Plays as play

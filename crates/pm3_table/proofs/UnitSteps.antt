@@ -1,47 +1,44 @@
 -- Steps on units keep the whole rule: a unit is taken, given back, and the turn is given back with commits.
-use Rattle.std.proofs.Common.{◌≡◌, ◌≢◌, ◌⊎◌, ℕ, ◌+◌, ◌-◌, ◌*◌, ◌<◌, ◌≤◌, ◌==◌, ◌||◌, nat_lt, Bool, true, false, if◌then◌else◌, List, [], ◌∷◌, ◌++◌, append_assoc, length, get_or, min, Option, None, Some, refl, sym, ap, ◌∙◌, subst, inl, inr, ⊎_elim, arith}
+use Rattle.std.proofs.Common.{◌≡◌, ◌≢◌, ℕ, ◌+◌, ◌-◌, ◌<◌, ◌≤◌, ◌==◌, ◌||◌, nat_lt, Bool, true, false, if◌then◌else◌, List, [], ◌∷◌, ◌++◌, get_or, min, Option, None, Some, refl, sym, ap, ◌∙◌, subst, ⊎_elim, arith}
 use Rattle.std.proofs.Math.ListN.{set}
-use mathlib.Core.Option as maybe
 use mathlib.Core.Option.{none, some}
 use mathlib.Core.Logic.{dite}
 use native.Mathlib.Decide.{ℕ_discrete}
 use lib.ListN.{get_elem?}
 use Rattle.atomic_table.specs.Table.{State}
-use Rattle.pm3_core.specs.declared.events.TheConstants.{PLACES}
-use Rattle.pm3_core.specs.Machine.{Machine, put}
+use Rattle.pm3_core.specs.Machine.{put}
 use Rattle.pm3_history.specs.Entry.{Done}
-use Rattle.pm3_table.specs.declared.view.Hold.{Hold}
 use Rattle.pm3_table.specs.declared.view.Hold.TheVariants.{Took, Gave}
 use Rattle.pm3_table.specs.declared.view.Span.TheVariants.{Spread}
 use Rattle.pm3_table.specs.declared.view.Told.{Told}
 use Rattle.pm3_table.specs.declared.view.View.{View}
 use Rattle.pm3_table.specs.Crew.{Lives, Seated}
 use Rattle.pm3_table.specs.Deeds.{marks_of, IsClearedIn}
-use Rattle.pm3_table.specs.Entries.{makes, touches, moved_of}
+use Rattle.pm3_table.specs.Entries.{makes, touches, moved_of, writes}
 use Rattle.pm3_table.specs.Histories.{some_has, NoneHas, by, AllBy}
 use Rattle.pm3_table.specs.Holds.{holds_of, spans_of, is_in}
-use Rattle.pm3_table.specs.Names.{NamesRule, spare}
-use Rattle.pm3_table.specs.Ops.{took, gave, turned}
-use Rattle.pm3_table.specs.Telling.{limit, first, names, names_page, NoneNames, Lawful, Good, spans_in, counted_in, is_steady, knows_used, IsSound, MayJoin}
+use Rattle.pm3_table.specs.Names.{NamesRule}
+use Rattle.pm3_table.specs.Ops.{took, gave}
+use Rattle.pm3_table.specs.Telling.{limit, first, names, names_page, NoneNames, Lawful, Good, spans_in, counted_in, is_steady, IsSound}
 use Rattle.pm3_table.specs.Words.{Encodes, unit_at, unit_word, turn_unit, space_unit}
-use Rattle.pm3_table.specs.Rows.{RowsRule, row_with, moves_of}
+use Rattle.pm3_table.specs.Rows.{RowsRule, moves_of}
 use Rattle.pm3_table.specs.Pages.{PagesRule}
-use Rattle.pm3_table.specs.Units.{UnitView, UnitsRule}
+use Rattle.pm3_table.specs.Units.{UnitsRule}
 use Rattle.pm3_table.specs.Draws.{DrawsRule}
 use Rattle.pm3_table.specs.Counts.{CountsRule}
 use Rattle.pm3_table.specs.Lost.{LostRule}
 use Rattle.pm3_table.specs.Lasts.{LastRule}
 use Rattle.pm3_table.specs.Rule.{Ruled, row_view, unit_view, page_view, draw_view, name_view, count_view, lost_view, last_view}
-use Rattle.pm3_table.proofs.Put.{put_at, put_here, put_else, put_cases, put_same}
+use Rattle.pm3_table.proofs.Put.{put_else, put_cases, put_same}
 use Rattle.pm3_table.proofs.Advances.{seated_now, unchanged}
-use Rattle.pm3_table.proofs.Encoded.{encode_same, encode_unit}
-use Rattle.pm3_table.proofs.RowSteps.{equal_test, at_view, here_is, here_lives, row_low, knows_row, holds_unit, holds_not, lock_small, mark_small, space_small}
+use Rattle.pm3_table.proofs.Encoded.{encode_unit}
+use Rattle.pm3_table.proofs.RowSteps.{equal_test, at_view, here_is, here_lives, knows_row, holds_unit}
 use Rattle.pm3_table.proofs.UnitsKept.{unit_with, takes_part, gives_part}
 use Rattle.std.proofs.lemmas.Bool.Decides.{nat_tests}
-use Rattle.pm3_table.proofs.Has.{none_join, has_one}
+use Rattle.pm3_table.proofs.Has.{none_join, has_one, has_left}
 use Rattle.pm3_table.proofs.PagesKept.{yes_or_no, page_with, pages_take, pages_give, held_page, not_marked}
 use Rattle.pm3_table.proofs.NamesKept.{own_of}
-use Rattle.pm3_table.proofs.LostKept.{lost_with, lost_take, lost_give}
+use Rattle.pm3_table.proofs.LostKept.{lost_with, lost_take}
 
 append_nothing : (h : List Done) → h ++ [] ≡ h
 append_nothing [] = refl
@@ -60,15 +57,17 @@ unnamed false b up e = refl
 none_more : (told : Told) (h : List Done) (e : Done) (u : ℕ) → names told e u ≡ false → NoneNames told h u → NoneNames told (h ++ e ∷ []) u
 none_more told h e u free spared = none_join (names told) h (e ∷ []) u spared (λ i. free i || false)
 
-either_steady : (told : Told) (v : View) (p : ℕ) {X : Type 0} → is_steady told v p ≡ true → (p < told.frontier → X) → (is_in p v.steady ≡ true → X) → X
-either_steady told v p steady a b = ⊎_elim (λ y. a (lt_of p told.frontier y)) (λ n. b (or_rest (nat_lt p told.frontier) (is_in p v.steady) n steady)) (yes_or_no (nat_lt p told.frontier))
+either_steady : (told : Told) (v : View) (p : ℕ) {X : Type 0} → is_steady told v p ≡ true → (p < told.frontier → X) → (is_in p v.steady ≡ true → X)
+    → (some_has writes v.seen p ≡ true → X) → X
+either_steady told v p {X} steady a b c = three (nat_lt p told.frontier) (is_in p v.steady) (some_has writes v.seen p) (λ y. a (lt_of p told.frontier y)) b c steady
   where
     lt_of : (x y : ℕ) → nat_lt x y ≡ true → x < y
     lt_of x y e = grind (arith, nat_tests, e)
 
-    or_rest : (x y : Bool) → x ≡ false → (x || y) ≡ true → y ≡ true
-    or_rest true y e t = absurd (cc)
-    or_rest false y e t = t
+    three : (x y z : Bool) → (x ≡ true → X) → (y ≡ true → X) → (z ≡ true → X) → (x || (y || z)) ≡ true → X
+    three true y z f g h e = f refl
+    three false true z f g h e = g refl
+    three false false z f g h e = h e
 
 chosen_at : {A : Type 0} (a b : ℕ) (x y : A) → a ≡ b → (if a == b then x else y) ≡ x
 chosen_at {A} a b x y e = ap (λ (t : Bool). if t then x else y) (equal_test a b e)
@@ -118,6 +117,9 @@ module _ {V : Type 0} (stands : Told → List Done → List Done → ℕ → V �
     steady_is p steady = either_steady told v p steady
         (λ below. (r.paged.opened p below, dite (ℕ_discrete (r.space p) 0) (λ e. e) (λ o. absurd (let f = (r.paged.volatile p o).3 in omega (arith, f, below)))))
         (λ is. r.paged.steady v.row (here_lives stands spans counted told s r id v l) p (ap (λ (x : View). is_in p x.steady) (here_is stands spans counted told s r id v l) ∙ is))
+        (λ is. let know = r.units.known v.row (here_lives stands spans counted told s r id v l) in
+        r.paged.written p (ap (λ (h : List Done). some_has writes h p) know.is
+        ∙ has_left writes (r.crew v.row).seen know.after p (ap (λ (x : View). some_has writes x.seen p) (here_is stands spans counted told s r id v l) ∙ is)))
 
     -- the word of a unit that is free is 0, where a page is of no space
     pub word_free : (u : ℕ) → u < told.pages + 33 → (u < told.pages → r.space u ≡ 0) → get_or s.words (unit_at u) 0 ≡ r.holder u
@@ -240,7 +242,7 @@ module _ {V : Type 0} (stands : Told → List Done → List Done → ℕ → V �
               let marker : r.machine.mark p ≡ v.row + 1 = sym (r.paged.marks p is).1 ∙ (ap r.holder at ∙ mine) in
               let mine_too : marks_of v.log p ≡ true = (knows_row stands spans counted told s r id v l).marks p ∙ equal_test (r.machine.mark p) (v.row + 1) marker in
               cc)
-              (λ p is. absurd (cc))));
+              (λ p is. absurd (cc)) (λ p is. absurd (cc))));
           draws = unchanged s.views r.crew seated id v w l live refl draw_view (DrawsRule (limit told) (first told) r.counter) refl r.draws;
           named = unchanged s.views r.crew seated id v w l live refl name_view (NamesRule makes told.next_name (r.counter 1) r.history) refl r.named;
           counts = unchanged s.views r.crew seated id v w l live refl count_view (CountsRule (min (r.counter 2) 32) r.history) refl r.counts;

@@ -1,5 +1,5 @@
 -- What steps on units leave of the part on units, slots and history.
-use Rattle.std.proofs.Common.{◌≡◌, ◌≢◌, ◌⊎◌, ℕ, zero, suc, ◌+◌, ◌<◌, ◌≤◌, ◌==◌, Bool, true, false, List, [], ◌∷◌, ◌++◌, append_assoc, length, length-set, length-append, refl, sym, ap, ◌∙◌, subst, inl, inr, ⊎_elim, arith}
+use Rattle.std.proofs.Common.{◌≡◌, ◌≢◌, ◌⊎◌, ℕ, ◌+◌, ◌<◌, ◌≤◌, ◌==◌, Bool, true, false, List, [], ◌∷◌, ◌++◌, append_assoc, length, length-set, length-append, refl, sym, ap, ◌∙◌, subst, inl, inr, ⊎_elim, arith}
 use Rattle.std.proofs.Math.ListN.{set}
 use Rattle.std.proofs.lemmas.Bool.Decides.{nat_tests}
 use mathlib.Core.Option.{Option, none, some, some-injective, some-ne-none}
@@ -14,7 +14,7 @@ use Rattle.pm3_table.specs.declared.view.Hold.TheVariants.{Took, Gave}
 use Rattle.pm3_table.specs.Histories.{some_has, NoneHas}
 use Rattle.pm3_table.specs.Holds.{holds_of}
 use Rattle.pm3_table.specs.Units.{UnitView, KnowsUnits, UnitsRule}
-use Rattle.pm3_table.proofs.Put.{put_at, put_here, put_else, put_cases}
+use Rattle.pm3_table.proofs.Put.{put_at, put_else, put_cases}
 use Rattle.pm3_table.proofs.Has.{none_join, none_right}
 
 -- the view of a mutator

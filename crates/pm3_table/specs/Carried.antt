@@ -1,5 +1,5 @@
 -- What a pass carries: the slot of each unit that it holds, empty.
-use Rattle.std.specs.Prelude.{◌≡◌, ℕ, ◌<◌, ◌==◌, ◌+◌, Bool, true, false, if◌then◌else◌, List, [], ◌∷◌, map, min, length, Option, None}
+use Rattle.std.specs.Prelude.{◌≡◌, ℕ, ◌<◌, ◌==◌, ◌+◌, true, false, if◌then◌else◌, List, [], ◌∷◌, min, length, Option, None}
 use Rattle.pm3_table.specs.declared.view.Hold.{Hold}
 use Rattle.pm3_table.specs.declared.view.View.{View}
 use Rattle.pm3_table.specs.Counts.{Distinct}

@@ -1,5 +1,5 @@
 -- What a mutator has done with its row, and what it knows by that.
-use Rattle.std.specs.Prelude.{◌≡◌, ℕ, ◌+◌, ◌<◌, ◌&&◌, Bool, true, false, not, if◌then◌else◌, List, [], ◌∷◌}
+use Rattle.std.specs.Prelude.{◌≡◌, ℕ, ◌<◌, ◌&&◌, Bool, true, false, not, if◌then◌else◌, List, [], ◌∷◌}
 use Rattle.pm3_core.specs.declared.events.TheConstants.{PLACES}
 use Rattle.pm3_core.specs.Naming.{names}
 use Rattle.pm3_core.specs.Machine.{put, spot}

@@ -1,5 +1,5 @@
 -- What the table reads of commits.
-use Rattle.std.specs.Prelude.{ℕ, ◌+◌, ◌-◌, ◌==◌, ◌&&◌, ◌||◌, Bool, true, false, not, cond, nat_lt, nat_le, List, [], ◌∷◌, map, Option, None, Some, slice_index}
+use Rattle.std.specs.Prelude.{ℕ, ◌+◌, ◌-◌, ◌==◌, ◌&&◌, ◌||◌, Bool, false, not, nat_lt, nat_le, List, [], map, Option, None, Some, slice_index}
 use Rattle.std.specs.List.{list_any, range_with_len}
 use Rattle.std.specs.FinMap.{get, keys, contains_key}
 use Rattle.std.specs.FinSet as set
@@ -20,6 +20,10 @@ is_space_of turn u (Some p) = u + 32 == turn + p.space
 -- the commit names the turn, each page that it writes, and the space of its pass; the turn is the last unit
 abbrev pub names_unit : ℕ → Done → ℕ → Bool
 names_unit turn e u = (u == turn) || (contains_key e.written u || is_space_of turn u e.pass)
+
+-- the commit writes the page
+abbrev pub writes : Done → ℕ → Bool
+writes e page = contains_key e.written page
 
 -- the pages from which the pass moves objects
 abbrev pub moved_by : Option Pass → List ℕ

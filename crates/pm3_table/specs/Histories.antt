@@ -1,5 +1,5 @@
 -- Lists of commits, and which of them a number concerns.
-use Rattle.std.specs.Prelude.{ℕ, ◌≡◌, ◌<◌, ◌==◌, ◌||◌, Bool, true, false, cond, List, [], ◌∷◌}
+use Rattle.std.specs.Prelude.{ℕ, ◌≡◌, ◌<◌, ◌==◌, ◌||◌, Bool, false, cond, List, [], ◌∷◌}
 use Rattle.pm3_history.specs.Entry.{Done}
 
 -- one of the commits has it of this number

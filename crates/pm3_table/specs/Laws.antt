@@ -12,7 +12,6 @@ use Rattle.pm3_table.specs.Crew.{Lives}
 use Rattle.pm3_table.specs.Deeds.{IsClearedIn, word_of, stands_of}
 use Rattle.pm3_table.specs.Holds.{is_in}
 use Rattle.pm3_table.specs.Telling.{Lawful}
-use Rattle.pm3_table.specs.Rule.{Ruled}
 
 -- a page that one mutator has cleared is named by no standing word of any
 abbrev pub ClearedUnnamed : {S : Type 0} → ℕ → State S View → Type 0

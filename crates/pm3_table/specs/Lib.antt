@@ -2,6 +2,7 @@ pub mod Entries
 pub mod Histories
 pub mod Deeds
 pub mod Words
+pub mod Numbers
 pub mod Crew
 pub mod Rows
 pub mod Holds
@@ -13,6 +14,8 @@ pub mod Counts
 pub mod Lost
 pub mod Lasts
 pub mod Telling
+pub mod Reads
+pub mod OpensBelow
 pub mod Rule
 pub mod Starting
 pub mod Ops

@@ -1,5 +1,5 @@
 -- What a step makes of a view.
-use Rattle.std.specs.Prelude.{ℕ, ◌+◌, ◌==◌, Bool, true, false, if◌then◌else◌, List, [], ◌∷◌, ◌++◌}
+use Rattle.std.specs.Prelude.{ℕ, ◌+◌, ◌==◌, if◌then◌else◌, List, ◌∷◌, ◌++◌}
 use Rattle.pm3_history.specs.Entry.{Done}
 use Rattle.pm3_table.specs.declared.view.Deed.{Deed}
 use Rattle.pm3_table.specs.declared.view.Hold.TheVariants.{Took, Gave}
@@ -65,6 +65,10 @@ settled_held v page log = record v {
   steady = page ∷ v.steady;
   pages = without_number page v.pages;
 }
+
+-- it saw so many mutators made, not all of which are joined into it
+abbrev pub saw_made : View → ℕ → View
+saw_made v made = record v { made = made }
 
 -- it stands between the load and the fetch of a draw
 abbrev pub begins_draw : ℕ → View → View

@@ -5,6 +5,7 @@ use lib.ListN.{get_elem?}
 use Rattle.pm3_history.specs.Entry.{Done}
 use Rattle.pm3_table.specs.declared.view.Hold.{Hold}
 use Rattle.pm3_table.specs.declared.view.Span.{Span}
+use Rattle.pm3_table.specs.Entries.{writes}
 use Rattle.pm3_table.specs.Histories.{some_has}
 use Rattle.pm3_table.specs.Holds.{holds_of, spans_of, is_in}
 use Rattle.pm3_table.specs.Words.{space_unit}
@@ -21,7 +22,8 @@ module _ {S : Type 0} (empty : S) (spans : S → List ℕ) (pages frontier : ℕ
   -- Pages below the first frontier are used and persistent at the start. A used page is below the frontier. A page that is
   -- not used has the word 0, and neither it nor a page of a space has a value. A marked page is of a space that its marker
   -- holds. A space that is at home has the pages whose words show it, and so does one that a view holds, as the view
-  -- says. What a view calls persistent is, and what it has drawn no one else has. A page that an image names is used.
+  -- says. What a view calls persistent is, as is each page that a commit wrote, and what it has drawn no one else has. A page
+  -- that an image names is used.
   pub record PagesRule (top : ℕ) (used : ℕ → Bool) (mark space holder : ℕ → ℕ) (history : List Done)
       (homes : List (Option S)) (crew : ℕ → PageView) : Type 0 where
     pub opened : (p : ℕ) → p < frontier → used p ≡ true
@@ -40,3 +42,4 @@ module _ {S : Type 0} (empty : S) (spans : S → List ℕ) (pages frontier : ℕ
     pub apart : (i j p : ℕ) → (crew i).live ≡ true → (crew j).live ≡ true → is_in p (crew i).pages ≡ true
         → is_in p (crew j).pages ≡ true → i ≡ j
     pub named : (p : ℕ) → some_has refers history p ≡ true → used p ≡ true
+    pub written : (p : ℕ) → some_has writes history p ≡ true → (used p ≡ true) × (space p ≡ 0)

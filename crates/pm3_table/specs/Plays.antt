@@ -10,8 +10,8 @@ use Rattle.pm3_table.specs.Deeds.{word_of}
 use Rattle.pm3_table.specs.Holds.{holds_of}
 use Rattle.pm3_table.specs.Ops.{did, refused, took, gave, turned, knew, settled_in, settled_held, begins_draw, saw_full}
 use Rattle.pm3_table.specs.Settles.{unmark_log}
-use Rattle.pm3_table.specs.Telling.{limit, NoneNames, Good, spans_in, counted_in, is_steady, HasInSpace, IsSound}
-use Rattle.pm3_table.specs.Words.{mark_in, space_in, turn_unit}
+use Rattle.pm3_table.specs.Telling.{limit, Lawful, NoneNames, Good, spans_in, counted_in, is_steady, HasInSpace, IsSound, mark_by}
+use Rattle.pm3_table.specs.Words.{mark_in, space_in, turn_unit, unit_word}
 
 module _ {S : Type 0} where
   -- a store to a place of the own row
@@ -32,6 +32,12 @@ module _ {S : Type 0} where
       (me' ≡ ((if space_in n == 0 then knew me.0 page else me.0), me.1))
       × ((j : ℕ) → HasInSpace told me.0 j page → space_in n ≡ j + 1)
       × (is_steady told me.0 page ≡ true → space_in n ≡ 0)
+      × ((j : ℕ) → HasInSpace told me.0 j page → n ≡ unit_word 0 (mark_by me.0 page) (j + 1))
+      × (is_steady told me.0 page ≡ true → holds_of me.0.holds page ≡ (n == me.0.row + 1))
+
+  -- a load that leaves the view, which has seen a lawful history
+  abbrev pub recalls : Told → Step S → Me S View → ℕ → Me S View → Type 0
+  recalls told st me n me' = (me' ≡ me) × Lawful told me.0.seen
 
   -- a mark, and a mark taken off
   abbrev pub marks : ℕ → Step S → Me S View → ℕ → Me S View → Type 0
@@ -91,6 +97,8 @@ takes {V} stands spans counted told u st me n me' =
     (n ≢ 0 → me' ≡ (refused me.0 u n, me.1))
     × (n ≡ 0 → (slot : Option V) × Taken stands spans counted told me.0 me'.0 u slot × (me'.1 ≡ (u, slot) ∷ me.1))
 
--- a load of the row counter, by which a mutator sees whether all others were joined into it
+-- a load of the row counter, by which a mutator sees whether all others were joined into it; those that were are among those
+-- made
 abbrev pub lasts : {S : Type 0} → Step S → Me S View → ℕ → Me S View → Type 0
-lasts st me n me' = me' ≡ (record me.0 { last = min n 32 == length me.0.kept + 1 }, me.1)
+lasts st me n me' =
+    (me' ≡ (record me.0 { last = min n 32 == length me.0.kept + 1; made = min n 32 }, me.1)) × (length me.0.kept + 1 ≤ min n 32)

@@ -1,5 +1,5 @@
 -- The rule of the running table, as a list of its parts.
-use Rattle.std.specs.Prelude.{◌≡◌, ℕ, ◌+◌, ◌^◌, ◌<◌, ◌≤◌, Bool, min, length, List, ◌++◌, Option, None}
+use Rattle.std.specs.Prelude.{ℕ, ◌+◌, ◌^◌, ◌<◌, ◌≤◌, Bool, min, length, List, ◌++◌, Option, None}
 use Rattle.atomic_table.specs.Table.{State}
 use Rattle.pm3_core.specs.Machine.{Machine}
 use Rattle.pm3_history.specs.Entry.{Done}
@@ -8,6 +8,7 @@ use Rattle.pm3_table.specs.declared.view.View.{View}
 use Rattle.pm3_table.specs.Crew.{Seated}
 use Rattle.pm3_table.specs.Words.{Encodes, turn_unit}
 use Rattle.pm3_table.specs.Entries.{makes}
+use Rattle.pm3_table.specs.OpensBelow.{OpensBelow}
 use Rattle.pm3_table.specs.Rows.{RowView, RowsRule, moves_of}
 use Rattle.pm3_table.specs.Units.{UnitView, UnitsRule}
 use Rattle.pm3_table.specs.Pages.{PageView, PagesRule}
@@ -71,4 +72,4 @@ module _ {V : Type 0} (stands : Told → List Done → List Done → ℕ → V �
     pub failed : LostRule (holder (turn_unit told.pages)) lost (λ k. lost_view (crew k))
     pub lasts : LastRule (λ k. last_view (crew k))
     pub lawful : Lawful told history × Lawful told (history ++ lost)
-    pub bounds : (told.pages < 16385) × (told.frontier ≤ told.pages) × (told.next_name ≤ 2 ^ 62)
+    pub bounds : (told.pages < 16385) × (told.frontier ≤ told.pages) × (told.next_name ≤ 2 ^ 62) × OpensBelow told

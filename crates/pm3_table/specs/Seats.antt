@@ -1,5 +1,5 @@
 -- How a view is cut in two, and how two are made one.
-use Rattle.std.specs.Prelude.{◌≡◌, ℕ, ◌+◌, ◌<◌, Bool, true, false, nat_lt, max, if◌then◌else◌, List, [], ◌∷◌, ◌++◌, length}
+use Rattle.std.specs.Prelude.{◌≡◌, ℕ, ◌+◌, ◌<◌, Bool, true, false, max, List, [], ◌∷◌, ◌++◌, length, drop, nat_lt, if◌then◌else◌}
 use Rattle.pm3_core.specs.declared.events.TheConstants.{ROW_PLACES}
 use Rattle.pm3_history.specs.Entry.{Done}
 use Rattle.pm3_table.specs.declared.view.View.{View}
@@ -24,14 +24,14 @@ left_view v = record v { rows = rest_of v.rows; last = false }
 abbrev pub new_view : ℕ → View → View
 new_view n v = record (bare_view true n v.faults) { seen = v.seen; steady = v.steady }
 
--- the longer of two lists
-abbrev pub longer : List Done → List Done → List Done
-longer a b = if nat_lt (length a) (length b) then b else a
+-- what the second list has behind as many commits as the first has
+abbrev pub beyond : List Done → List Done → List Done
+beyond a b = drop (length a) b
 
 -- the view that knows what both knew, and keeps what the other counted
 abbrev pub both_views : View → View → View
 both_views v x = record v {
-  seen = longer v.seen x.seen;
+  seen = v.seen ++ beyond v.seen x.seen;
   faults = max v.faults x.faults;
   steady = v.steady ++ x.steady;
   pages = v.pages ++ x.pages;

@@ -1,5 +1,5 @@
 -- The start of a table.
-use Rattle.std.specs.Prelude.{◌≡◌, ℕ, Bool, true, false, List, [], None}
+use Rattle.std.specs.Prelude.{ℕ, Bool, true, false, [], None}
 use Rattle.std.specs.FinMap.{empty}
 use Rattle.pm3_history.specs.Opens.{Origin}
 use Rattle.pm3_table.specs.declared.view.Told.{Told}
@@ -33,6 +33,7 @@ bare_view live row faults = record {
   failed = [];
   lost = [];
   last = false;
+  made = 0;
   refusals = [];
 }
 
@@ -44,11 +45,10 @@ first_view faults = bare_view true 0 faults
 abbrev pub spent_view : View
 spent_view = bare_view false 0 0
 
+-- an opening of which nothing is told
+abbrev pub blank_origin : Origin
+blank_origin = record { catalog = []; images = empty; summaries = []; due = 0; file = None; journal = None }
+
 -- a table without pages
 abbrev pub blank_told : Told
-blank_told = record {
-  pages = 0;
-  frontier = 0;
-  next_name = 0;
-  opening = record { catalog = []; images = empty; summaries = []; due = 0; file = None; journal = None };
-}
+blank_told = record { pages = 0; frontier = 0; next_name = 0; opening = blank_origin }

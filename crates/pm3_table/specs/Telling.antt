@@ -1,15 +1,16 @@
 -- What a table is told, and what a view then knows.
-use Rattle.std.specs.Prelude.{◌≡◌, ◌≢◌, ◌⊎◌, ℕ, zero, suc, ◌+◌, ◌^◌, ◌<◌, ◌≤◌, ◌==◌, ◌&&◌, ◌||◌, Bool, true, false, nat_lt, if◌then◌else◌, List, [], ◌∷◌, ◌++◌, Option, None, Some, is_some}
+use Rattle.std.specs.Prelude.{◌≡◌, ◌⊎◌, ℕ, zero, suc, ◌+◌, ◌^◌, ◌<◌, ◌≤◌, ◌==◌, ◌&&◌, ◌||◌, Bool, true, false, nat_lt, if◌then◌else◌, List, [], ◌++◌, Option, None, Some}
 use Rattle.std.specs.FinMap.{get}
 use Rattle.pm3_core.specs.declared.naming.TheConstants.{BASE}
 use Rattle.pm3_history.specs.Entry.{Done}
 use Rattle.pm3_history.specs.Opens.{LawfulFrom}
 use Rattle.pm3_table.specs.declared.view.Told.{Told}
 use Rattle.pm3_table.specs.declared.view.View.{View}
-use Rattle.pm3_table.specs.Deeds.{IsClearedIn}
-use Rattle.pm3_table.specs.Entries.{names_unit, makes, refers, touches}
+use Rattle.pm3_table.specs.Deeds.{IsClearedIn, marks_of}
+use Rattle.pm3_table.specs.Entries.{names_unit, makes, refers, touches, writes}
 use Rattle.pm3_table.specs.Histories.{some_has, NoneHas, by, AllBy}
 use Rattle.pm3_table.specs.Holds.{holds_of, spans_of, is_in}
+use Rattle.pm3_table.specs.Reads.{AllRead}
 use Rattle.pm3_table.specs.Words.{space_unit, turn_unit}
 
 -- the limits of the three counters, and what they begin with
@@ -49,9 +50,13 @@ abbrev pub counted_in : {V : Type 0} → (V → ℕ) → Option V → ℕ
 counted_in counted None = 0
 counted_in counted (Some x) = counted x
 
--- the view knows the page to be persistent
+-- the view knows the page to be persistent: from the start, from a look or its own settling, or since it has seen it written
 abbrev pub is_steady : Told → View → ℕ → Bool
-is_steady told v p = nat_lt p told.frontier || is_in p v.steady
+is_steady told v p = nat_lt p told.frontier || (is_in p v.steady || some_has writes v.seen p)
+
+-- the mark that a page has by the view: its own number plus one, or none
+abbrev pub mark_by : View → ℕ → ℕ
+mark_by v p = if marks_of v.log p then v.row + 1 else 0
 
 -- the page is in the space, which the view holds
 abbrev pub HasInSpace : Told → View → ℕ → ℕ → Type 0
@@ -65,7 +70,7 @@ in_some_space told v (suc n) p =
     (holds_of v.holds (space_unit told.pages n) && spans_of v.spans (space_unit told.pages n) p) || in_some_space told v n p
 
 -- the view knows the page to be used: persistent, in a space that it holds, or named by an image that it has seen
-abbrev pub knows_used : Told → View → ℕ → Bool
+unfoldable pub knows_used : Told → View → ℕ → Bool
 knows_used told v p = is_steady told v p || (in_some_space told v 32 p || some_has (names_page told) v.seen p)
 
 -- What a view that has seen the whole history knows of itself: the history is lawful, with the failed commits too; its own
@@ -87,3 +92,4 @@ pub record MayJoin (told : Told) (v : View) (more failed : List Done) : Type 0 w
   pub drawn : (n : ℕ) → some_has makes more n ≡ true → is_in n v.names ≡ true
   pub used : (p : ℕ) → some_has (names_page told) more p ≡ true → knows_used told v p ≡ true
   pub cleared : (p : ℕ) → some_has touches more p ≡ true → IsClearedIn told.pages v.log p
+  pub read : AllRead v.log more

@@ -17,8 +17,8 @@ pub trait Chronicle {
     // The faults that the turn's value has counted.
     ghost counted: { Self → ℕ };
 
-    /// How many faults the turn's value has counted.
-    fn faults(&self) -> u64;
+    /// Whether it is a value that goes with the turn. The table does not ask, but a trait has laws only beside a call.
+    fn is_turn(&self) -> bool;
 
     // A commit that does not name the unit leaves what stands for it.
     ghost frame: { (told : Told) (lost h : List Done) (e : Done) (u : ℕ) (x : Self) → names told e u ≡ false

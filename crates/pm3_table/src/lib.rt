@@ -16,12 +16,17 @@ mod view;
 mod chronicle;
 mod rule;
 
-// Units, and how they are refused.
+// Units, how they are refused, and their values while no one shares them.
+mod homes;
+mod marks;
 mod unit;
 
 // Shared tables and passes, and what each step on them tells.
 mod plays;
 mod shared;
+
+// How a table is not closed.
+mod close_fault;
 
 // Single steps, one public call each.
 mod closing;
@@ -35,16 +40,17 @@ mod unit_steps;
 mod law;
 
 pub use chronicle::Chronicle;
-pub use closing::{NotAll, close};
+pub use close_fault::CloseFault;
 pub use draw_steps::{NAMES, draw_name, draw_page};
 pub use entry::{Commit, Opening};
+pub use homes::Homes;
 pub use law::table_law;
+pub use marks::Marks4;
 pub use plays::Aim;
+pub use pm3_types::Memory;
 pub use row_steps::{load_named, look, mark_page, read_word, store_word, unmark_page};
 pub use rule::{Key, TheRule};
-pub use seats::{join, split};
 pub use shared::{Pass, Shared};
-pub use starts::start;
 pub use unit::{Busy, Full, Limit, Unit};
 pub use unit_steps::{give_turn, give_unit, settle_held, settle_volatile, take_unit};
 pub use view::{Deed, Hold, Kept, Refusal, Span, Told, View};

@@ -6,7 +6,7 @@ ghost use Rattle.pm3_table.specs.declared.view.View.{View};
 ghost use Rattle.pm3_table.specs.Starting.{blank_told, spent_view};
 ghost use Rattle.pm3_table.specs.Seats.{left_view, new_view, both_views, first_of};
 ghost use Rattle.pm3_table.specs.Ops.{drew_page, drew_name, drew_row};
-ghost use Rattle.pm3_table.specs.Plays.{stores, finds, validates, looks, marks, unmarks, counts, fetches, settles_in, settles_held, reaches, gives, turns, takes, lasts};
+ghost use Rattle.pm3_table.specs.Plays.{stores, finds, validates, looks, recalls, marks, unmarks, counts, fetches, settles_in, settles_held, reaches, gives, turns, takes, lasts};
 
 use crate::chronicle::Chronicle;
 use crate::view::View;
@@ -201,6 +201,15 @@ impl Join<View> for Glue {
     ghost both = { both_views };
 
     ghost spent = { spent_view };
+}
+
+/// A load by which a mutator sees that what it has seen is lawful.
+pub(crate) struct Recalls<J> {
+    of: PhantomData<J>,
+}
+
+impl<V, J: Aim> Play<Option<V>, View> for Recalls<J> {
+    ghost then = { recalls J.told };
 }
 
 /// A load of the row counter by one that may be the last mutator.

@@ -4,10 +4,11 @@ ghost use Rattle.pm3_core.specs.declared.events.TheConstants.{ROW_PLACES, ROWS};
 ghost use Rattle.pm3_core.specs.Naming.{Names};
 ghost use Rattle.pm3_table.specs.declared.view.Deed.TheVariants.{Stored, Stood, Marked, Found, Unmarked};
 ghost use Rattle.pm3_table.specs.Deeds.{word_of, marks_of};
+ghost use Rattle.pm3_table.specs.Holds.{holds_of};
 ghost use Rattle.pm3_table.specs.Ops.{did, refused, knew};
 ghost use Rattle.pm3_table.specs.Passes.{IsOf, Becomes};
-ghost use Rattle.pm3_table.specs.Telling.{HasInSpace, is_steady, knows_used};
-ghost use Rattle.pm3_table.specs.Words.{mark_in, space_in};
+ghost use Rattle.pm3_table.specs.Telling.{HasInSpace, is_steady, knows_used, mark_by};
+ghost use Rattle.pm3_table.specs.Words.{mark_in, space_in, unit_word};
 
 use crate::chronicle::Chronicle;
 use crate::plays::{Aim, Finds, Looks, Marks, Stores, Unmarks, Validates};
@@ -103,6 +104,8 @@ fn look_at<V: Chronicle, J: Aim>(shared: &Shared<V>, pass: &mut Pass<V>, page: u
     ensures view { Becomes pass.old pass.new (if space_in result == 0 then knew pass.old.1 page else pass.old.1) }
     ensures volatile { (j : ℕ) → HasInSpace shared.now.1 pass.old.1 j page → space_in result ≡ j + 1 }
     ensures persistent { is_steady shared.now.1 pass.old.1 page ≡ true → space_in result ≡ 0 }
+    ensures own { (j : ℕ) → HasInSpace shared.now.1 pass.old.1 j page → result ≡ unit_word 0 (mark_by pass.old.1 page) (j + 1) }
+    ensures held { is_steady shared.now.1 pass.old.1 page ≡ true → holds_of pass.old.1.holds page ≡ (result == pass.old.1.row + 1) }
 {
     let at = PLACES + page as usize;
     shared.table.shared.load::<Looks<J>>(&mut pass.seat, at)
@@ -117,6 +120,8 @@ pub fn look<V: Chronicle>(shared: &Shared<V>, pass: &mut Pass<V>, page: u32) -> 
     ensures view { Becomes pass.old pass.new (if space_in result == 0 then knew pass.old.1 page else pass.old.1) }
     ensures volatile { (j : ℕ) → HasInSpace shared.now.1 pass.old.1 j page → space_in result ≡ j + 1 }
     ensures persistent { is_steady shared.now.1 pass.old.1 page ≡ true → space_in result ≡ 0 }
+    ensures own { (j : ℕ) → HasInSpace shared.now.1 pass.old.1 j page → result ≡ unit_word 0 (mark_by pass.old.1 page) (j + 1) }
+    ensures held { is_steady shared.now.1 pass.old.1 page ≡ true → holds_of pass.old.1.holds page ≡ (result == pass.old.1.row + 1) }
 {
     look_at::<V, Brand>(shared, pass, page)
 }

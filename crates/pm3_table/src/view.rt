@@ -71,6 +71,8 @@ pub struct View {
     pub lost: LinkedList<Commit>,
     /// It saw that every other mutator was joined into it.
     pub last: bool,
+    /// How many mutators it saw made when it last tried to close the table.
+    pub made: u32,
     pub refusals: LinkedList<Refusal>,
 }
 

@@ -1,1 +1,5 @@
 pub mod Blank
+pub mod Nothing
+pub mod Started
+pub mod Counted
+pub mod Settled

@@ -3,11 +3,15 @@
 
 mod tables;
 mod tallies;
+mod turns;
+mod volatile;
 mod workers;
 
-pub use tables::{drain, sixteen};
+pub use tables::{drain, sixteen, use_up_rows};
 pub use tallies::Tally;
-pub use workers::{write_both, write_down};
+pub use turns::{commit_nothing, hold_page, hold_turn};
+pub use volatile::{grow, hold_seen, mark_seen, unmark_seen, word_of_page};
+pub use workers::{mark_and_scan, mark_beside, store_and_validate, write_both, write_down};
 
 #[cfg(test)]
 mod tests;

@@ -1,4 +1,4 @@
-use Rattle.std.proofs.Common.{rules, ◌≡◌, ℕ, sym, ap, ◌∙◌, subst, inr}
+use Rattle.std.proofs.Common.{◌≡◌, ℕ, sym, ◌∙◌, subst, inr}
 use Rattle.pm3_core.specs.Naming.{Names}
 use Rattle.pm3_table.specs.declared.view.Deed.TheVariants.{Found}
 use Rattle.pm3_table.specs.Deeds.{word_of}

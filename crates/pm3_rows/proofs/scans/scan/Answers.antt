@@ -1,12 +1,13 @@
-use Rattle.std.proofs.Common.{rules, ◌≡◌, ℕ, ◌+◌, ◌/◌, ◌%◌, List, [], ◌∷◌, ◌++◌, length, length-append, sym, ap, ◌∙◌, subst, arith}
+use Rattle.std.proofs.Common.{rules, ◌≡◌, ℕ, ◌/◌, ◌%◌, List, [], ◌∷◌, ◌++◌, get_or, Some, length, length-append, sym, ap, ◌∙◌, subst, arith}
 use Rattle.pm3_core.specs.declared.events.TheConstants.{PLACES, ROW_PLACES}
 use Rattle.pm3_table.specs.declared.view.Deed.{Deed}
 use Rattle.pm3_table.specs.declared.view.Deed.TheVariants.{Found}
 use Rattle.pm3_table.specs.declared.view.View.{View}
-use Rattle.pm3_table.specs.Deeds.{IsClearedIn}
+use Rattle.pm3_table.specs.Deeds.{marks_of, IsClearedIn}
 use Rattle.pm3_table.specs.Ops.{did}
+use Rattle.pm3_table.specs.Reads.{read_of, marked_then}
 use Rattle.pm3_rows.specs.Scans.{scanned}
-use Rattle.pm3_rows.proofs.Scanning.{scanned_more, scanned_clears}
+use Rattle.pm3_rows.proofs.Scanning.{scanned_more, scanned_clears, scanned_word, full_then}
 use Rattle.pm3_rows.proofs.scans.scan.Goals as goal
 
 pub loop-n-preserved : goal.loop-n-preserved
@@ -29,3 +30,15 @@ returns-clause-cleared g c = λ page marked free.
     let full : length c.loop-n.out ≡ PLACES = search rules in
     subst (λ (l : List Deed). IsClearedIn c.args.shared.now.1.pages l page) (ap (λ (v : View). v.log) (sym c.loop-n.invariant.view.1))
     (scanned_clears c.args.shared.now.1.pages c.loop-n.out c.args.pass.now.1.log page full marked free)
+
+pub returns-clause-words : goal.returns-clause-words
+returns-clause-words g c = λ n low.
+    let full : length c.loop-n.out ≡ PLACES = search rules in
+    subst (λ (l : List Deed). read_of l n ≡ Some (get_or c.loop-n.out n 0)) (ap (λ (v : View). v.log) (sym c.loop-n.invariant.view.1))
+    (scanned_word n c.loop-n.out c.args.pass.now.1.log (omega (arith, low, full)))
+
+pub returns-clause-marks : goal.returns-clause-marks
+returns-clause-marks g c = λ page.
+    let full : length c.loop-n.out ≡ PLACES = search rules in
+    subst (λ (l : List Deed). marked_then l page ≡ marks_of c.args.pass.now.1.log page) (ap (λ (v : View). v.log) (sym c.loop-n.invariant.view.1))
+    (full_then c.loop-n.out c.args.pass.now.1.log page full)

@@ -1,5 +1,4 @@
 use Rattle.std.specs.Prelude.{[]}
-use Rattle.pm3_table.specs.Starting.{blank_told}
 use Rattle.pm3_table.proofs.draw_steps.draw_name.Given as goal
 
 abbrev pub ghosts-draw_name_at : goal.ghosts-draw_name_at

@@ -1,5 +1,4 @@
 use Rattle.std.specs.Prelude.{[]}
-use Rattle.pm3_table.specs.Starting.{blank_told}
 use Rattle.pm3_table.proofs.row_steps.look.Given as goal
 
 abbrev pub ghosts-look_at : goal.ghosts-look_at

@@ -1,4 +1,4 @@
-use Rattle.std.proofs.Common.{rules, ◌≡◌, ◌+◌, ◌*◌, sym}
+use Rattle.std.proofs.Common.{rules, ◌+◌, ◌*◌, sym}
 use Rattle.pm3_table.specs.Starting.{told_of}
 use Rattle.pm3_table.proofs.RowCalls.{store_call}
 use Rattle.pm3_table.proofs.row_steps.store_at.Goals as goal

@@ -1,20 +1,10 @@
-use Rattle.std.proofs.Common.{rules, ◌≡◌, ◌≢◌, ℕ, ◌+◌, ◌*◌, ◌<◌, ◌≤◌, true, false, Option, None, List, [], ◌∷◌, refl, sym, ap, ◌∙◌, subst, arith}
+use Rattle.std.proofs.Common.{rules, ◌≡◌, refl, sym, ap}
 use Rattle.pm3_core.specs.Naming.{Names}
-use Rattle.atomic_table.specs.Table.{Me, step, Allows, rest}
-use mathlib.Core.Option.{none}
 use Rattle.pm3_table.specs.declared.view.Told.{Told}
 use Rattle.pm3_table.specs.declared.view.View.{View}
-use Rattle.pm3_table.specs.Carried.{IsIdle, dropped}
-use Rattle.pm3_table.specs.Deeds.{word_of, marks_of}
-use Rattle.pm3_table.specs.Holds.{holds_of, spans_of, is_in}
-use Rattle.pm3_table.specs.Ops.{gave, turned, begins_draw}
-use Rattle.pm3_table.specs.Plays as play
-use Rattle.pm3_table.specs.Rule.{Ruled}
-use Rattle.pm3_table.specs.Settles.{MaySettle}
+use Rattle.pm3_table.specs.Deeds.{word_of}
 use Rattle.pm3_table.specs.Starting.{told_of}
-use Rattle.pm3_table.specs.Telling.{limit, Good, HasInSpace, is_steady, knows_used, spans_in, counted_in, MayJoin}
-use Rattle.pm3_table.specs.Words.{space_unit, turn_unit}
-use Rattle.pm3_table.proofs.Asked.{within, idle_gave, idle_turned}
+use Rattle.pm3_table.proofs.Asked.{within}
 use Rattle.pm3_table.proofs.RowCalls.{validate_call}
 use Rattle.pm3_table.proofs.row_steps.validate_at.Goals as goal
 

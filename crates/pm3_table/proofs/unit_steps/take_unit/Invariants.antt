@@ -1,5 +1,4 @@
 use Rattle.std.specs.Prelude.{[]}
-use Rattle.pm3_table.specs.Starting.{blank_told}
 use Rattle.pm3_table.proofs.unit_steps.take_unit.Given as goal
 
 abbrev pub ghosts-take_at : goal.ghosts-take_at
