@@ -1,13 +1,13 @@
 -- A pass was carried out.
-use Rattle.std.proofs.Common.{◌≡◌, ◌≢◌, ◌<◌, ◌+◌, ◌∙◌, ◌⊎◌, ◌↔◌, inl, inr, ℕ, true, false, List, ◌++◌, take, drop, get_or, not, Option, Some, None, is_some, slice_index_or, refl, sym, ap, subst, arith}
+use Rattle.std.proofs.Common.{◌≡◌, ◌≢◌, ◌<◌, ◌≤◌, ◌+◌, ◌∙◌, ◌⊎◌, ◌↔◌, inl, inr, ℕ, true, false, List, ◌++◌, take, drop, length, get_or, not, Option, Some, None, is_some, slice_index_or, refl, sym, ap, subst, arith}
 use Rattle.std.specs.FinMap as map_of
 use Rattle.std.specs.FinSet as set
 use Rattle.std.specs.Ordering.{nat_cmp}
-use Rattle.std.specs.List.{Contains}
+use Rattle.std.specs.List.{All, Contains}
 use Rattle.std.proofs.lemmas.Bool.{cases_Bool, and_parts, false≢true}
 use Rattle.pm3_types.specs.Fields.{Fields}
 use Rattle.pm3_types.specs.Layout.{Sheet, PageImage, address, is_address, begins_at, is_start, is_unmoved, is_forwarded, page_in, word_in}
-use Rattle.pm3_types.specs.Least.Least.{begin}
+use Rattle.pm3_types.specs.Least.Least.{begin, next}
 use Rattle.pm3_types.specs.Objects.{is_object_at, is_unmoved_on}
 use Rattle.pm3_types.specs.PageForm.{IsSound, is_memory_reference}
 use Rattle.pm3_types.specs.PassMoves.{AreMovers, moved_by, paired, settled, sizes, wanted_by}
@@ -29,7 +29,9 @@ use Rattle.pm3_copy.specs.Spreading.{before_of, AreTurned}
 use Rattle.pm3_copy.proofs.BothMoves.{among}
 use Rattle.pm3_copy.proofs.Carried as images_of
 use Rattle.pm3_copy.proofs.Carried.{AreParted, IsHere, joined_has, joined_from, joined_none, starts_same, updated_here, updated_from, updated_pages}
-use Rattle.pm3_copy.proofs.PlanParts.{same_pages}
+use Rattle.pm3_copy.proofs.Destinations.{settled_on, first_goes, second_goes}
+use Rattle.pm3_copy.proofs.PlanParts.{same_pages, sizes_within}
+use Rattle.pm3_copy.proofs.Stayers.{kept_apart}
 use Rattle.pm3_copy.proofs.RenamedCopies.{renamed_copy, same_itself}
 use Rattle.pm3_copy.proofs.Wholes.{some_of, same_some, none_some, whole_at, object_here, object_there, object_of, object_begins, sheet_on, image_on}
 
@@ -301,13 +303,40 @@ module _ (catalog : List Fields) (base : ℕ) (above : 0 < base) (space written 
         back (inr is) = inr is
 
     pub is_carried_out : news ≡ settled base (sizes catalog base (sheets_of space) promoted) (take wanted fresh) → places ≡ settled base (sizes catalog base (sheets_of space) kept) (drop wanted fresh)
-        → IsCarriedOut catalog base before fresh all now (sheets_of new_space) (sheets_of new_written)
-    is_carried_out first second = record {
+        → length news ≡ length promoted → length places ≡ length kept → IsCarriedOut catalog base before fresh all now (sheets_of new_space) (sheets_of new_written)
+    is_carried_out first second long others_long = record {
       moves = paired promoted news ++ paired kept places;
       are = record { promoted = promoted; kept = kept; of_promoted = promoted_movers; of_kept = kept_movers; are = λ i. paired promoted (first i) ++ paired kept (second i) };
       addresses = are_addresses;
       carried = are_carried;
       only = only;
+      persistent = persistent;
+      volatile = volatile;
       written_pages = written_pages;
       space_pages = space_pages;
     }
+      where
+        apart : (a : ℕ) → Contains promoted a → Contains kept a → ⊥
+        apart a one other = kept_apart catalog base before a (kept_movers.only a other).0 (promoted_movers.only a one).0
+
+        big : (list : List ℕ) → ((a : ℕ) → Contains list a → is_object_at base (sheets_of space) a ≡ true) → All (λ s. 2 ≤ s) (sizes catalog base (sheets_of space) list)
+        big list there k d low = (sizes_within catalog base space space_sound list (λ a is. object_there catalog base 16384 space a space_sound (there a is)) k d low).0
+
+        persistent : (a : ℕ) → Promoted catalog base before a → map_of.contains_key (sheets_of new_written) (page_in base (to a)) ≡ true
+        persistent a is = elim (cases_Bool (set.contains pinned (page_in base a))) [
+          | inl pin ↦ ap (λ b. map_of.contains_key (sheets_of new_written) (page_in base b)) (stays_pinned a pin) ∙ (written_pages (page_in base a)).1 (inr (inl (pin, (a, refl, is))))
+          | inr free ↦ (
+              let goes = first_goes promoted news kept places long others_long promoted_movers.rising kept_movers.rising apart a (promoted_movers.all a (is, free)) in
+              (written_pages (page_in base (to a))).1 (inr (inr (settled_on base (sizes catalog base (sheets_of space) promoted) (take wanted fresh) (to a)
+              (big promoted (λ b c. member_there b (inl c))) (subst (λ xs. Contains xs (to a)) first goes)))))
+        ]
+
+        volatile : (a : ℕ) → Kept catalog base before a → map_of.contains_key (sheets_of new_space) (page_in base (to a)) ≡ true
+        volatile a is = elim (cases_Bool (set.contains pinned (page_in base a))) [
+          | inl pin ↦ ap (λ b. map_of.contains_key (sheets_of new_space) (page_in base b)) (stays_pinned a pin)
+              ∙ (space_pages (page_in base a)).1 (inl (pin, λ turns_. kept_apart catalog base before a is (next turns_.1.0 a turns_.1.2 (kept_there catalog base before a is, inr (ap (set.contains pinned) turns_.1.1 ∙ pin, sym turns_.1.1)))))
+          | inr free ↦ (
+              let goes = second_goes promoted news kept places long others_long promoted_movers.rising kept_movers.rising apart a (kept_movers.all a (is, free)) in
+              (space_pages (page_in base (to a))).1 (inr (settled_on base (sizes catalog base (sheets_of space) kept) (drop wanted fresh) (to a)
+              (big kept (λ b c. member_there b (inr c))) (subst (λ xs. Contains xs (to a)) second goes))))
+        ]

@@ -3,7 +3,7 @@ use Rattle.std.proofs.Common.{◌≡◌, ◌<◌, ◌≤◌, ◌+◌, ◌-◌, �
 use Rattle.std.proofs.Math.ListN.{get_or-append}
 use Rattle.std.proofs.Math.Seq.{get_or-append_right}
 use Rattle.std.specs.List.{Contains}
-use Rattle.std.proofs.lemmas.Bool.{cases_lt}
+use Rattle.std.proofs.lemmas.Bool.{cases_eq, cases_lt}
 use Rattle.std.proofs.lemmas.List.Elements.{Contains-append_left, Contains-append_right, Contains-append_cases, Contains-get_or}
 use Rattle.pm3_types.specs.PassMoves.{IsRising, IsListOf}
 
@@ -70,3 +70,13 @@ rising_room (x ∷ xs) low n rising within =
     let last = at_least (x ∷ xs) low rising (λ i there. (within i there).0) (length xs) (omega arith) in
     let high = (within (length xs) (omega arith)).1 in
     omega arith
+
+-- numbers that rise are distinct
+pub rising_distinct : (xs : List ℕ) (i j : ℕ) → IsRising xs → i < length xs → j < length xs → get_or xs i 0 ≡ get_or xs j 0 → i ≡ j
+rising_distinct xs i j rising low high same = elim (cases_eq i j) [
+  | inl e ↦ e
+  | inr apart ↦ elim (cases_lt i j) [
+    | inl less ↦ (let more = rising i j less high in absurd (omega arith))
+    | inr other ↦ (let more = rising j i (omega arith) low in absurd (omega arith))
+  ]
+]

@@ -24,7 +24,7 @@ module _ (base : ℕ) (pinned : set.FinSet nat_cmp) (but : List ℕ) (found : Fi
   unfolding ArePicked
   picked_none = list_none _ (λ a p. omega (arith, p.1.low))
 
-  pub picked_more : (n : ℕ) (list new : List ℕ) → IsRising found.objects → n < length found.objects → TakesUp base pinned but found (get_or found.objects n 0) list new → ArePicked n list → ArePicked (n + 1) new
+  pub picked_more : (n : ℕ) (list new : List ℕ) → IsRising found.objects → n < length found.objects → TakesUp (Picks base pinned but found (get_or found.objects n 0)) (get_or found.objects n 0) list new → ArePicked n list → ArePicked (n + 1) new
   unfolding ArePicked
   picked_more n list new rising low takes are = by takes
     where
@@ -37,7 +37,7 @@ module _ (base : ℕ) (pinned : set.FinSet nat_cmp) (but : List ℕ) (found : Fi
       wider : (a : ℕ) → Picks base pinned but found a × IsBefore found.objects n a → Picks base pinned but found a × IsBefore found.objects (n + 1) a
       wider a (picks, before) = (picks, record { place = before.place; low = omega (arith, before.low); is = before.is })
 
-      by : TakesUp base pinned but found (get_or found.objects n 0) list new → IsListOf (λ a. Picks base pinned but found a × IsBefore found.objects (n + 1) a) new
+      by : TakesUp (Picks base pinned but found (get_or found.objects n 0)) (get_or found.objects n 0) list new → IsListOf (λ a. Picks base pinned but found a × IsBefore found.objects (n + 1) a) new
       by (inl (picks, is)) = subst (IsListOf (λ a. Picks base pinned but found a × IsBefore found.objects (n + 1) a)) (sym is)
           (list_join (λ a. Picks base pinned but found a × IsBefore found.objects n a) (λ a. a ≡ get_or found.objects n 0) (λ a. Picks base pinned but found a × IsBefore found.objects (n + 1) a)
           list (get_or found.objects n 0 ∷ []) are (list_one (get_or found.objects n 0))

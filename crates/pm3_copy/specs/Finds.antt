@@ -1,20 +1,11 @@
 -- Objects that have been found, among all the objects of a space.
-use Rattle.std.specs.Prelude.{ℕ, ◌≡◌, ◌⊎◌, ◌↔◌, ◌<◌, ◌++◌, Bool, true, false, List, length, slice_index, slice_index_or}
-use Rattle.std.specs.List.{Contains, count_by}
-use Rattle.pm3_types.specs.PassMoves.{IsRising}
+use Rattle.std.specs.Prelude.{ℕ, ◌≡◌, ◌⊎◌, ◌++◌, List}
+use Rattle.std.specs.List.{Contains}
 
 -- the objects of the space, and those that have been found, in the order of coming
 pub record Finds : Type 0 where
   pub objects : List ℕ
   pub list : List ℕ
-
--- a mark for each of the objects says whether it was found
-pub record AreMarked (objects : List ℕ) (marked : List Bool) (list : List ℕ) : Type 0 where
-  pub long : length marked ≡ length objects
-  pub rising : IsRising objects
-  pub marks : (i : ℕ) → i < length objects → (slice_index_or marked i false ≡ true) ↔ Contains list (slice_index objects i)
-  pub only : (a : ℕ) → Contains list a → Contains objects a
-  pub count : length list ≡ count_by (λ mark. mark) marked
 
 -- the objects that pass a test are found besides, and what was found before keeps its place
 pub record Adds (Passes : ℕ → Type 0) (old new : Finds) : Type 0 where

@@ -3,6 +3,7 @@ pub mod Whole
 pub mod References
 pub mod Spreading
 pub mod Planning
+pub mod Blocks
 pub mod Tables
 pub mod Copies
 pub mod Renaming
@@ -10,3 +11,4 @@ pub mod Fresh
 pub mod Moving
 pub mod Sending
 pub mod CarriedOut
+pub mod PassLaws

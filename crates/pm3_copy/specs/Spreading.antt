@@ -40,7 +40,11 @@ AreWhole base images turned found = (b : ℕ) → set.contains turned (page_in b
 abbrev pub AreTurned : List Fields → ℕ → Before → set.FinSet nat_cmp → Type 0
 AreTurned catalog base before turned = (p : ℕ) → (set.contains turned p ≡ true) ↔ Turns catalog base before p
 
--- an object was found that lies on no pinned page and is not among others
+-- an object was found that lies on no pinned page
+abbrev pub IsFree : ℕ → set.FinSet nat_cmp → Finds → ℕ → Type 0
+IsFree base pinned found a = Contains found.list a × (set.contains pinned (page_in base a) ≡ false)
+
+-- and is not among others
 abbrev pub Picks : ℕ → set.FinSet nat_cmp → List ℕ → Finds → ℕ → Type 0
 Picks base pinned but found a = Contains found.list a × (set.contains pinned (page_in base a) ≡ false) × (Contains but a → ⊥)
 
@@ -52,9 +56,9 @@ RefersFor catalog base images a b = RefersTo catalog base (sheets_of images) a b
 abbrev pub AreOnPages : ℕ → List ℕ → Type 0
 AreOnPages base list = (i : ℕ) → i < length list → (is_address base (slice_index list i) ≡ true) × (page_in base (slice_index list i) < 16384)
 
--- an object is added to a list exactly where it is picked
-abbrev pub TakesUp : ℕ → set.FinSet nat_cmp → List ℕ → Finds → ℕ → List ℕ → List ℕ → Type 0
-TakesUp base pinned but found a old new = (Picks base pinned but found a × (new ≡ old ++ a ∷ [])) ⊎ ((Picks base pinned but found a → ⊥) × (new ≡ old))
+-- an object is added to a list exactly where this holds
+abbrev pub TakesUp : Type 0 → ℕ → List ℕ → List ℕ → Type 0
+TakesUp Holds a old new = (Holds × (new ≡ old ++ a ∷ [])) ⊎ ((Holds → ⊥) × (new ≡ old))
 
 -- the pages that were given up, and this one unless it is pinned
 abbrev pub Frees : set.FinSet nat_cmp → ℕ → set.FinSet nat_cmp → set.FinSet nat_cmp → Type 0

@@ -10,6 +10,7 @@ ghost use Rattle.pm3_types.specs.Shown as shown;
 ghost use Rattle.pm3_page.specs.PageMap.{IsAtHome};
 ghost use Rattle.pm3_page.specs.PageSheets.{AreSoundPages, sheets_of};
 ghost use Rattle.pm3_copy.specs.CarriedOut.{IsCarriedOut};
+ghost use Rattle.pm3_copy.specs.Blocks.{AreNumbered};
 ghost use Rattle.pm3_copy.specs.Fresh.{AreBlank, AreLeast, AreNext};
 ghost use Rattle.pm3_copy.specs.Moving.{AreMoved};
 ghost use Rattle.pm3_copy.specs.Planning.{IsPlan};
@@ -18,6 +19,7 @@ ghost use Rattle.pm3_copy.specs.Spreading.{before_of};
 ghost use Rattle.pm3_copy.specs.Tables.{AreTables, follows};
 ghost use Rattle.pm3_copy.specs.Whole.{IsObjectOf};
 
+use crate::index::Index;
 use crate::leaving::Leaving;
 use crate::moving::{Moved, move_all};
 use crate::plans::Plan;
@@ -40,16 +42,18 @@ pub struct Report {
     pub moved: u32,
 }
 
-/// Copies all objects that move to the fresh pages, and answers the tables of their moves.
+/// Copies all objects that move to the fresh pages, and answers the tables of their moves, with the index of both.
 fn move_both(
     catalog: &Catalog,
     volatile: &Pages,
     promoted: Leaving,
     kept: Leaving,
+    index: Index,
     fresh: &mut Pages,
 ) -> Tables
     requires volatile { AreSoundPages catalog.now BASE 16384 volatile.now.images }
     requires promoted { All (IsObjectOf BASE volatile.now.images) promoted }
+    requires numbered { AreNumbered BASE index.blocks.by_page.items index.numbers.items promoted × AreNumbered BASE index.blocks.by_page.items index.numbers.items kept }
     requires kept { All (IsObjectOf BASE volatile.now.images) kept }
     requires promoted_rise { IsRising promoted }
     requires kept_rise { IsRising kept }
@@ -59,7 +63,7 @@ fn move_both(
         × (length first ≡ pages_wanted (sizes catalog.now BASE (sheets_of volatile.now.images) promoted))
         × (length second ≡ pages_wanted (sizes catalog.now BASE (sheets_of volatile.now.images) kept)) }
     ensures olds { (result.promoted.olds.items ≡ promoted) × (result.kept.olds.items ≡ kept) }
-    ensures tables { AreTables result }
+    ensures tables { AreTables BASE result }
     ensures moved { AreMoved catalog.now BASE volatile.now.images promoted kept (follows result) fresh.old.images fresh.new.images }
     ensures settled { (first second : List ℕ) → AreNext fresh.old.images 1 (first ++ second)
         → length first ≡ pages_wanted (sizes catalog.now BASE (sheets_of volatile.now.images) promoted)
@@ -73,6 +77,7 @@ fn move_both(
     Tables {
         promoted: table,
         kept: others.table,
+        index,
     }
 }
 
@@ -108,7 +113,7 @@ fn part(
 /// Carries out the plan of a pass over these images, on as many fresh pages as the plan wants. It takes no memory.
 ///
 /// Afterwards the written images also have the pages that have turned persistent, and those of the space are the ones that stay.
-/// What both show is said by `pass_law` of `pm3_types`.
+/// What both show is said by `carried_law`.
 pub fn carry_out(
     plan: Plan,
     catalog: &Catalog,
@@ -146,11 +151,12 @@ pub fn carry_out(
         moved,
         promoted,
         kept,
+        index,
         turned,
         freed,
     } = plan;
     let mut filled = fresh;
-    let tables = move_both(catalog, volatile, promoted, kept, &mut filled);
+    let tables = move_both(catalog, volatile, promoted, kept, index, &mut filled);
     part(
         persistent,
         staying,

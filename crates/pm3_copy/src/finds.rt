@@ -1,50 +1,58 @@
-//! The objects of a space, with a mark for those that have been found.
+//! The objects of a space, and those of them that have been found.
 ghost use Rattle.std.specs.Prelude.{ℕ, ◌≡◌, ◌↔◌, ◌<◌, ◌≤◌, [], length, slice_index, IfOk, IsTrue};
 ghost use Rattle.std.specs.List.{Contains};
 ghost use Rattle.pm3_types.specs.PassMoves.{IsRising};
 ghost use Rattle.pm3_copy.specs.Finds.{Adds};
+ghost use Rattle.pm3_copy.specs.Blocks.{AreOnBlocks, AreBlocks, AreWaiting};
 
-use pm3_page::Addr;
+use crate::blocks::Blocks;
+use pm3_page::{Addr, BASE};
 use pm3_types::Memory;
+use std::alloc::Global;
 use std::marker::Model;
 
-/// Objects in rising order, and those of them that have been found, each once, in the order of coming. To find one takes no
-/// memory.
+/// Objects in rising order, and those of them that have been found, each once, in the order of coming. For each word of their
+/// pages a flag says whether an object begins there that still waits to be found. To find one takes no memory.
 #[derive(Debug, Drop)]
 pub(crate) struct Found {
     objects: Vec<Addr>,
-    marked: Vec<bool>,
+    blocks: Blocks,
+    waiting: Vec<bool>,
     list: Vec<Addr>,
 }
 
 impl Model for Found {
-    ghost use Rattle.std.specs.Prelude.{◌≤◌, length, vec_capacity};
-    ghost use Rattle.pm3_copy.specs.Finds.{Finds, AreMarked};
+    ghost use Rattle.std.specs.Prelude.{◌≡◌, ◌≤◌, length, vec_capacity};
+    ghost use Rattle.pm3_core.specs.declared.naming.TheConstants.{BASE};
+    ghost use Rattle.pm3_copy.specs.Finds.{Finds};
+    ghost use Rattle.pm3_copy.specs.Blocks.{AreWaiting};
 
     ghost Value = { Finds };
 
     ghost view = { λ f. record { objects = f.objects.items; list = f.list.items } };
 
-    ghost invariant = { λ f. AreMarked f.objects.items f.marked.items f.list.items × (length f.marked.items ≤ vec_capacity f.list) };
+    ghost invariant = { λ f. AreWaiting BASE f.blocks.by_page.items f.objects.items f.waiting.items f.list.items × (f.blocks.words ≡ length f.waiting.items)
+        × (length f.objects.items ≤ vec_capacity f.list) };
 }
 
 impl Found {
-    /// Nothing has been found of these objects.
-    pub(crate) fn none(objects: Vec<Addr>) -> Result<Found, Memory>
-        requires { IsRising objects.items }
+    /// Nothing has been found of these objects, which lie on pages with a block.
+    pub(crate) fn none(objects: Vec<Addr>, blocks: Blocks) -> Result<Found, Memory>
+        requires rising { IsRising objects.items }
+        requires blocks { AreBlocks blocks.by_page.items blocks.words }
+        requires on { AreOnBlocks BASE blocks.by_page.items blocks.words objects.items }
         ensures { IfOk result (λ found. found ≡ record { objects = objects.items; list = [] }) }
     {
         let alloc = *objects.allocator();
-        let Ok(marked) = vec![in alloc; false; objects.len()] else {
-            return Err(Memory);
-        };
+        let waiting = wait_for(alloc, &objects, &blocks)?;
         let mut list = Vec::new(alloc);
         let Ok(()) = list.reserve(objects.len()) else {
             return Err(Memory);
         };
         Ok(Found {
             objects,
-            marked,
+            blocks,
+            waiting,
             list,
         })
     }
@@ -71,7 +79,7 @@ impl Found {
         requires { i < length self.now.objects }
         ensures { IsTrue result ↔ Contains self.now.list (slice_index self.now.objects i) }
     {
-        self.marked[i]
+        !self.waiting[self.blocks.slot_of(self.objects[i])]
     }
 
     /// The number of objects that have been found.
@@ -95,23 +103,41 @@ impl Found {
     pub(crate) fn find(&mut self, word: u64)
         ensures { Adds (λ b. b ≡ word) self.old self.new }
     {
-        if let Ok(i) = self.objects.binary_search(&word) {
-            self.mark(i);
-        }
-    }
-
-    /// Finds the object at a place among all.
-    fn mark(&mut self, i: usize)
-        requires { i < length self.old.objects }
-        ensures { Adds (λ b. b ≡ slice_index self.old.objects i) self.old self.new }
-    {
-        if self.marked[i] {
+        let Some(place) = self.blocks.place_of(word) else {
+            return;
+        };
+        if !self.waiting[place] {
             return;
         }
-        self.marked[i] = true;
-        let at = self.objects[i];
-        let Ok(()) = self.list.push(at) else {
+        self.waiting[place] = false;
+        let Ok(()) = self.list.push(word) else {
             unreachable!()
         };
     }
+
+    /// The blocks of the pages on which all objects lie.
+    pub(crate) fn into_blocks(self) -> Blocks
+        ensures blocks { AreBlocks result.by_page.items result.words }
+        ensures on_blocks { AreOnBlocks BASE result.by_page.items result.words self.objects }
+    {
+        self.blocks
+    }
+}
+
+/// The flags by which just these objects wait.
+fn wait_for(alloc: Global, objects: &[Addr], blocks: &Blocks) -> Result<Vec<bool>, Memory>
+    requires rising { IsRising objects.now }
+    requires blocks { AreBlocks blocks.now.by_page.items blocks.now.words }
+    requires on { AreOnBlocks BASE blocks.now.by_page.items blocks.now.words objects.now }
+    ensures waiting { IfOk result (λ waiting. AreWaiting BASE blocks.now.by_page.items objects.now waiting.items []) }
+    ensures long { IfOk result (λ waiting. length waiting.items ≡ blocks.now.words) }
+{
+    let Ok(mut waiting) = vec![in alloc; false; blocks.words] else {
+        return Err(Memory);
+    };
+    for i in 0..objects.len() {
+        let place = blocks.slot_of(objects[i]);
+        waiting[place] = true;
+    }
+    Ok(waiting)
 }

@@ -6,13 +6,16 @@
 //! what stays in the space, the least set that holds the other objects of pinned pages and what these refer to; the numbers of
 //! pages that it wants are exact and have a bound. `carry_out` moves each of their objects off the pinned pages once, to the place
 //! that the order of addresses and the fresh pages tell, lets all references follow, takes no memory, and leaves no other object
-//! and exactly the pages that `IsCarriedOut` names. So `pass_law` of `pm3_types` holds of the images before and after: they show
-//! the same records, less the dead ones.
+//! and exactly the pages that `IsCarriedOut` names. So the images before and after show the same records, less the dead ones
+//! (`carried_law`); pinned pages and those outside of the space keep their addresses (`quiet_law`); and what was promoted no
+//! later pass moves or loses (`promoted_law`).
 #![tactic(auto)]
 
 // What is found, and what it leads to.
+mod blocks;
 mod finding;
 mod finds;
+mod index;
 mod objects;
 
 // The two sets, and which of their objects move.
@@ -28,6 +31,8 @@ mod plans;
 // Carrying it out.
 mod carrying;
 mod copying;
+#[cfg(test)]
+mod drawn_tests;
 mod leaving;
 mod moving;
 #[cfg(test)]
@@ -39,6 +44,10 @@ mod tables;
 mod update_pages;
 mod updating;
 
+// What holds of every pass.
+mod laws;
+
 pub use carrying::{Report, carry_out};
+pub use laws::{carried_law, promoted_law, quiet_law};
 pub use planning::plan;
 pub use plans::Plan;

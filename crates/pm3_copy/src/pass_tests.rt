@@ -42,13 +42,13 @@ fn are_there(pages: &PageSet, images: &Pages) -> bool
     true
 }
 
-/// So many blank pages from page 10 on.
-fn blank_pages(alloc: Global, count: u32) -> Result<Pages, Fail>
+/// So many blank pages from this one on.
+fn blank_pages(alloc: Global, first: PageNo, count: u32) -> Result<Pages, Fail>
     ensures { IfOk result (λ pages. AreBlank pages.images) }
 {
     let mut pages = Pages::new(alloc);
-    for page in 10..10 + count.min(10) {
-        add_blank(alloc, &mut pages, page)?;
+    for i in 0..count.min(1000) {
+        add_blank(alloc, &mut pages, first.clamp(3, 10_000) + i)?;
     }
     Ok(pages)
 }
@@ -86,15 +86,19 @@ fn carry_counted(
     requires no_roots { map.get volatile.old.images 2 ≡ None }
     requires fresh { AreBlank fresh.images }
     requires fresh_apart { (p : ℕ) → map.contains_key fresh.images p ≡ true → (map.get written.old.images p ≡ None) × (map.get volatile.old.images p ≡ None) }
+    ensures { IfOk result (λ _. AreSoundPages catalog.now BASE 16384 volatile.new.images × AreSoundPages catalog.now BASE 16384 written.new.images) }
 {
-    if made.persistent > 5 || made.volatile > 5 || made.turned.len() > 5 {
-        return Err(Fail::from("more than the test has"));
+    if made.persistent > 16384 || made.volatile > 16384 {
+        return Err(Fail::from("more pages than a store has"));
     }
     if fresh.len() != made.persistent + made.volatile {
         return Err(Fail::from("not as many pages as wanted"));
     }
-    if written.spare() < 10 || volatile.spare() < 5 {
-        return Err(Fail::from("no room"));
+    if written.spare() < made.persistent as usize + made.turned.len() as usize {
+        return Err(Fail::from("no room among the written pages"));
+    }
+    if volatile.spare() < made.volatile as usize {
+        return Err(Fail::from("no room in the space"));
     }
     Ok(carry_out(made, catalog, volatile, written, fresh))
 }
@@ -112,6 +116,7 @@ fn carry_apart(
     requires volatile { AreSoundPages catalog.now BASE 16384 volatile.old.images }
     requires written { AreSoundPages catalog.now BASE 16384 written.old.images }
     requires fresh { AreBlank fresh.images }
+    ensures { IfOk result (λ _. AreSoundPages catalog.now BASE 16384 volatile.new.images × AreSoundPages catalog.now BASE 16384 written.new.images) }
 {
     if !are_there(chosen, volatile) {
         return Err(Fail::from("a pinned page that is not there"));
@@ -134,24 +139,26 @@ fn carry_apart(
 /// What a test looks at: the pages wanted of each kind, the pages turned and given up, the pins and the moves.
 type Numbers = [u32; 6];
 
-/// Plans a pass with these pinned pages and carries it out, on fresh pages from page 10 on.
-fn carry(
+/// Plans a pass with these pinned pages and carries it out, on fresh pages from one on.
+pub(crate) fn carry(
     alloc: Global,
     catalog: &Catalog,
     volatile: &mut Pages,
     written: &mut Pages,
     pinned: &[PageNo],
+    first: PageNo,
 ) -> Result<Numbers, Fail>
     requires volatile { AreSoundPages catalog.now BASE 16384 volatile.old.images }
     requires written { AreSoundPages catalog.now BASE 16384 written.old.images }
+    ensures { IfOk result (λ _. AreSoundPages catalog.now BASE 16384 volatile.new.images × AreSoundPages catalog.now BASE 16384 written.new.images) }
 {
-    written.reserve(10)?;
-    volatile.reserve(5)?;
+    written.reserve(100)?;
+    volatile.reserve(100)?;
     let chosen = set_of(alloc, pinned)?;
     let made = plan(alloc, catalog, volatile, written, &chosen)?;
     let persistent = made.persistent;
     let staying = made.volatile;
-    let fresh = blank_pages(alloc, persistent.min(5) + staying.min(5))?;
+    let fresh = blank_pages(alloc, first, persistent.min(500) + staying.min(500))?;
     let report = carry_apart(made, catalog, volatile, written, fresh, &chosen)?;
     Ok([
         persistent,
@@ -199,7 +206,7 @@ fn expect_pass(
     let catalog = types(alloc)?;
     let mut volatile = pages_of(alloc, &catalog, 0, space)?;
     let mut written = pages_of(alloc, &catalog, roots[0], &[])?;
-    let made = carry(alloc, &catalog, &mut volatile, &mut written, pinned)?;
+    let made = carry(alloc, &catalog, &mut volatile, &mut written, pinned, 10)?;
     expect(made == numbers)?;
     expect_images(&volatile, &pages_of(alloc, &catalog, 0, space_after)?)?;
     expect_images(
@@ -283,16 +290,23 @@ fn a_cycle_turns_its_pinned_page_and_follows(rt: HostRuntime) -> Result<(), Fail
     )
 }
 
+/// Two objects on page 3.
+fn two_objects() -> [PageWord; 3] {
+    [(3, 0, page_head(3, 8)), (3, 3, 1), (3, 6, 2)]
+}
+
 #[test]
 fn a_page_that_a_word_names_stays_whole(rt: HostRuntime) -> Result<(), Fail> {
+    let page = two_objects();
+    let roots = [reference(3, 2), reference(3, 2)];
     expect_pass(
         rt.alloc(),
-        &[(3, 0, page_head(3, 8)), (3, 3, 1), (3, 6, 2)],
-        [reference(3, 2), reference(3, 2)],
+        &page,
+        roots,
         &[3],
         [0, 0, 1, 0, 1, 0],
         &[],
-        &[(3, 0, page_head(3, 8)), (3, 3, 1), (3, 6, 2)],
+        &page,
     )
 }
 
@@ -300,7 +314,7 @@ fn a_page_that_a_word_names_stays_whole(rt: HostRuntime) -> Result<(), Fail> {
 fn one_of_two_objects_moves_without_a_pin(rt: HostRuntime) -> Result<(), Fail> {
     expect_pass(
         rt.alloc(),
-        &[(3, 0, page_head(3, 8)), (3, 3, 1), (3, 6, 2)],
+        &two_objects(),
         [reference(3, 2), reference(10, 2)],
         &[],
         [1, 0, 0, 1, 0, 1],

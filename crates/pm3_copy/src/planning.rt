@@ -1,14 +1,20 @@
 //! A pass is planned.
-ghost use Rattle.std.specs.Prelude.{◌≡◌, ◌↔◌, ◌<◌, ℕ, true, false, IfOk, OnOk};
+ghost use Rattle.std.specs.Prelude.{◌≡◌, ◌↔◌, ◌<◌, ◌^◌, ℕ, List, [], length, true, false, IfOk, OnOk};
+ghost use Rattle.std.specs.List.{All, Contains};
 ghost use Rattle.std.specs.FinMap as map;
 ghost use Rattle.std.specs.FinSet as set;
-ghost use Rattle.pm3_types.specs.PassMoves.{AreMovers};
+ghost use Rattle.pm3_types.specs.Fields.{Fields};
+ghost use Rattle.pm3_types.specs.PassMoves.{AreMovers, IsListOf, IsRising};
 ghost use Rattle.pm3_types.specs.PassSets.{Promoted, Kept};
 ghost use Rattle.pm3_page.specs.PageSheets.{AreSoundPages};
+ghost use Rattle.pm3_copy.specs.Blocks.{AreNumbered};
 ghost use Rattle.pm3_copy.specs.Planning.{IsPlan};
 ghost use Rattle.pm3_copy.specs.Spreading.{before_of, AreTurned, Frees};
+ghost use Rattle.pm3_copy.specs.Whole.{IsObjectOf};
 
+use crate::blocks::Blocks;
 use crate::finds::Found;
+use crate::index::Index;
 use crate::keeping::keep;
 use crate::leaving::Leaving;
 use crate::movers::movers;
@@ -40,6 +46,7 @@ pub fn plan(
         promoted,
         kept,
         turned,
+        index,
     } = find_moving(alloc, catalog, volatile, written, pinned)?;
     let persistent = pages_for(catalog, volatile, &promoted);
     let staying = pages_for(catalog, volatile, &kept);
@@ -54,17 +61,19 @@ pub fn plan(
         moved,
         promoted: going,
         kept: left,
+        index,
         turned,
         freed,
     })
 }
 
-/// The objects that move, of each kind, and the pinned pages that turn persistent.
+/// The objects that move, of each kind, and their index, and the pinned pages that turn persistent.
 #[derive(Debug, Drop)]
 struct Moving {
     promoted: Vec<Addr>,
     kept: Vec<Addr>,
     turned: PageSet,
+    index: Index,
 }
 
 /// Finds the objects that move.
@@ -82,17 +91,50 @@ fn find_moving(
     ensures kept { IfOk result (λ moving. let before = before_of volatile.now.images written.now.images pinned.now in
         AreMovers BASE before (Kept catalog.now BASE before) moving.kept.items) }
     ensures turned { IfOk result (λ moving. AreTurned catalog.now BASE (before_of volatile.now.images written.now.images pinned.now) moving.turned) }
+    ensures numbered { IfOk result (λ moving. AreNumbered BASE moving.index.blocks.by_page.items moving.index.numbers.items moving.promoted.items
+        × AreNumbered BASE moving.index.blocks.by_page.items moving.index.numbers.items moving.kept.items) }
 {
-    let mut found = Found::none(objects_of(alloc, volatile)?)?;
+    let mut found = none_found(alloc, volatile)?;
     let turned = promote(alloc, catalog, volatile, written, pinned, &mut found)?;
     let promoted = movers(alloc, &found, pinned, &[])?;
     keep(catalog, volatile, pinned, &mut found);
     let kept = movers(alloc, &found, pinned, &promoted)?;
+    let index = index_of(alloc, found, &promoted, &kept)?;
     Ok(Moving {
         promoted,
         kept,
         turned,
+        index,
     })
+}
+
+/// All objects of these images, of which none has been found.
+fn none_found(alloc: Global, images: &Pages) -> Result<Found, Memory>
+    requires { (catalog : List Fields) × AreSoundPages catalog BASE 16384 images.now.images }
+    ensures objects { IfOk result (λ found. IsListOf (IsObjectOf BASE images.now.images) found.objects) }
+    ensures none { IfOk result (λ found. found.list ≡ []) }
+{
+    let objects = objects_of(alloc, images)?;
+    let blocks = Blocks::of(alloc, images)?;
+    let found = Found::none(objects, blocks)?;
+    Ok(found)
+}
+
+/// The index of the objects that move, by their places in both lists.
+fn index_of(alloc: Global, found: Found, promoted: &[Addr], kept: &[Addr]) -> Result<Index, Memory>
+    requires promoted { All (Contains found.objects) promoted.now }
+    requires kept { All (Contains found.objects) kept.now }
+    requires promoted_rise { IsRising promoted.now }
+    requires kept_rise { IsRising kept.now }
+    requires apart { (a : ℕ) → Contains promoted.now a → Contains kept.now a → ⊥ }
+    requires few { (length promoted.now < 2 ^ 32) × (length kept.now < 2 ^ 32) }
+    ensures promoted { IfOk result (λ index. AreNumbered BASE index.blocks.by_page.items index.numbers.items promoted.now) }
+    ensures kept { IfOk result (λ index. AreNumbered BASE index.blocks.by_page.items index.numbers.items kept.now) }
+{
+    let mut index = Index::over(alloc, found.into_blocks())?;
+    index.number(promoted);
+    index.number(kept);
+    Ok(index)
 }
 
 /// The pages of these images that are not pinned.

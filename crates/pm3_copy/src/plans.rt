@@ -1,4 +1,5 @@
 //! The plan of a pass.
+use crate::index::Index;
 use crate::leaving::Leaving;
 use pm3_page::PageSet;
 use std::marker::Model;
@@ -16,11 +17,14 @@ pub struct Plan {
     pub moved: u32,
     pub(crate) promoted: Leaving,
     pub(crate) kept: Leaving,
+    pub(crate) index: Index,
     pub(crate) turned: PageSet,
     pub(crate) freed: PageSet,
 }
 
 impl Model for Plan {
+    ghost use Rattle.pm3_core.specs.declared.naming.TheConstants.{BASE};
+    ghost use Rattle.pm3_copy.specs.Blocks.{AreNumbered};
     ghost use Rattle.pm3_copy.specs.Planning.{PlanState, plan_code};
 
     ghost Value = { PlanState };
@@ -37,4 +41,6 @@ impl Model for Plan {
       turned = p.turned;
       freed = p.freed;
     } };
+
+    ghost invariant = { λ p. AreNumbered BASE p.index.blocks.by_page.items p.index.numbers.items p.promoted × AreNumbered BASE p.index.blocks.by_page.items p.index.numbers.items p.kept };
 }

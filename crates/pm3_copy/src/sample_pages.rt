@@ -110,7 +110,27 @@ fn add_roots(alloc: Global, catalog: &Catalog, pages: &mut Pages, to: u64) -> Re
     add_page(alloc, catalog, pages, 2, &words)
 }
 
-/// The page of roots with one root, unless that is nil, and the images of the pages from 3 to 11 that have some of these words.
+/// The page of roots with one root, unless that is nil, and the images of the pages from one up to another that have some of
+/// these words.
+pub(crate) fn pages_between(
+    alloc: Global,
+    catalog: &Catalog,
+    to: u64,
+    words: &[PageWord],
+    first: PageNo,
+    end: PageNo,
+) -> Result<Pages, Fail>
+    ensures { IfOk result (λ pages. AreSoundPages catalog.now BASE 16384 pages.images) }
+{
+    let mut pages = Pages::new(alloc);
+    add_roots(alloc, catalog, &mut pages, to)?;
+    for page in first.max(3)..end.min(16384) {
+        add_page(alloc, catalog, &mut pages, page, words)?;
+    }
+    Ok(pages)
+}
+
+/// The same for the pages from 3 to 11.
 pub(crate) fn pages_of(
     alloc: Global,
     catalog: &Catalog,
@@ -119,11 +139,7 @@ pub(crate) fn pages_of(
 ) -> Result<Pages, Fail>
     ensures { IfOk result (λ pages. AreSoundPages catalog.now BASE 16384 pages.images) }
 {
-    let mut pages = Pages::new(alloc);
-    add_roots(alloc, catalog, &mut pages, to)?;
-    for page in 3..12 {
-        add_page(alloc, catalog, &mut pages, page, words)?;
-    }
+    let pages = pages_between(alloc, catalog, to, words, 3, 12)?;
     Ok(pages)
 }
 

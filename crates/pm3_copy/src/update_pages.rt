@@ -12,7 +12,7 @@ use pm3_types::Catalog;
 
 /// Lets the references of all images follow. An image is taken out while it is changed, and its room is used for it again.
 pub(crate) fn update_all(catalog: &Catalog, pages: &mut Pages, tables: &Tables)
-    requires tables { AreTables tables.now }
+    requires tables { AreTables BASE tables.now }
     requires keeps { KeepsReferences BASE (follows tables.now) }
     requires sound { AreSoundPages catalog.now BASE 16384 pages.old.images }
     ensures updated { AreUpdated catalog.now (follows tables.now) pages.old.images pages.new.images }
@@ -28,7 +28,7 @@ pub(crate) fn update_all(catalog: &Catalog, pages: &mut Pages, tables: &Tables)
 
 /// Lets the references of the image of a page follow.
 fn update_page(catalog: &Catalog, pages: &mut Pages, page: PageNo, tables: &Tables)
-    requires tables { AreTables tables.now }
+    requires tables { AreTables BASE tables.now }
     requires keeps { KeepsReferences BASE (follows tables.now) }
     requires sound { AreSoundPages catalog.now BASE 16384 pages.old.images }
     requires there { map.contains_key pages.old.images page ≡ true }

@@ -18,7 +18,7 @@ const ROOT_SLOTS: u32 = 16;
 
 /// Lets all references of an image follow: those in the root slots, or those of its objects.
 pub(crate) fn update(catalog: &Catalog, image: &mut Image, tables: &Tables)
-    requires tables { AreTables tables.now }
+    requires tables { AreTables BASE tables.now }
     requires keeps { KeepsReferences BASE (follows tables.now) }
     requires sound { IsSound catalog.now BASE 16384 image.old }
     requires long { length image.old.sheet.words ≡ 512 }
@@ -35,7 +35,7 @@ pub(crate) fn update(catalog: &Catalog, image: &mut Image, tables: &Tables)
 
 /// Lets the references in the root slots follow.
 fn update_roots(image: &mut Image, tables: &Tables)
-    requires tables { AreTables tables.now }
+    requires tables { AreTables BASE tables.now }
     requires roots { image.old.page ≡ 2 }
     requires long { length image.old.sheet.words ≡ 512 }
     ensures page { image.new.page ≡ image.old.page }
@@ -49,7 +49,7 @@ fn update_roots(image: &mut Image, tables: &Tables)
 
 /// Lets the references of all objects of an image follow.
 fn update_objects(catalog: &Catalog, image: &mut Image, tables: &Tables)
-    requires tables { AreTables tables.now }
+    requires tables { AreTables BASE tables.now }
     requires sound { IsSound catalog.now BASE 16384 image.old }
     requires long { length image.old.sheet.words ≡ 512 }
     ensures page { image.new.page ≡ image.old.page }
@@ -64,7 +64,7 @@ fn update_objects(catalog: &Catalog, image: &mut Image, tables: &Tables)
 
 /// Lets the references of the object at `at` follow.
 fn update_object(catalog: &Catalog, image: &mut Image, at: Addr, tables: &Tables)
-    requires tables { AreTables tables.now }
+    requires tables { AreTables BASE tables.now }
     requires object { begins_at BASE image.old at ≡ true }
     requires whole { IsWhole catalog.now image.old.sheet (word_in BASE at) }
     requires long { length image.old.sheet.words ≡ 512 }
@@ -80,7 +80,7 @@ fn update_object(catalog: &Catalog, image: &mut Image, at: Addr, tables: &Tables
 
 /// Lets the word in a place of the object at `at` follow, if it is a reference.
 fn update_place(map: TypeMap, tail: u32, image: &mut Image, at: Addr, place: u32, tables: &Tables)
-    requires tables { AreTables tables.now }
+    requires tables { AreTables BASE tables.now }
     requires object { begins_at BASE image.old at ≡ true }
     requires within { word_in BASE at + 2 + place < 512 }
     requires long { length image.old.sheet.words ≡ 512 }

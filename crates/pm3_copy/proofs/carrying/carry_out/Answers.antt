@@ -1,4 +1,4 @@
-use Rattle.std.proofs.Common.{◌≡◌, ◌+◌, ◌++◌, ◌∙◌, inl, inr, ℕ, List, take, drop, sym, subst, arith}
+use Rattle.std.proofs.Common.{◌≡◌, ◌+◌, ◌++◌, ◌∙◌, inl, inr, ℕ, List, take, drop, length, ap, sym, subst, arith}
 use Rattle.std.specs.FinMap as map
 use Rattle.pm3_core.specs.declared.naming.TheConstants.{BASE}
 use Rattle.pm3_types.specs.PassMoves.{paired, moved_by, wanted_by}
@@ -117,7 +117,7 @@ returns-clause-carried c pinned all now is_plan within joined_all joined_now =
     is_carried_out c.args.catalog.now BASE (omega arith) c.args.volatile.now.images c.args.written.now.images c.args.fresh.images c.move_both-tables.new.fresh.images c.part.new.volatile.images c.part.new.written.images
     c.update_all.new.pages.images c.update_all-2.new.pages.images pinned c.plan.inside.turned c.plan.inside.freed c.plan.inside.promoted c.plan.inside.kept (map.keys c.args.fresh.images) table.promoted.news.items
     table.kept.news.items all now c.requires.volatile c.requires.written c.move_both-tables.ensures.sound c.requires.fresh c.requires.no_roots plan.promoted plan.kept plan.turned parted moved space written joined_all joined_now
-    settled.0 settled.1
+    settled.0 settled.1 (c.move_both-tables.ensures.tables.promoted_whole ∙ ap (λ (xs : List ℕ). length xs) olds.0) (c.move_both-tables.ensures.tables.kept_whole ∙ ap (λ (xs : List ℕ). length xs) olds.1)
 
 pub returns-clause-apart : goal.returns-clause-apart
 returns-clause-apart c p is =
@@ -135,3 +135,8 @@ returns-clause-bounded c pages of_space of_written fresh =
     plan.2 c.requires.apart c.requires.fresh_apart c.requires.fresh wanted c.move_both-tables.ensures.moved.pages c.part.ensures
     c.requires.volatile c.requires.written c.move_both-tables.ensures.sound c.plan.inside.promoted c.plan.inside.kept (follows c.move_both-tables.result) c.update_all.new.pages.images c.update_all-2.new.pages.images pages
     c.move_both-tables.ensures.moved c.update_all.ensures.updated c.update_all-2.ensures.updated of_space of_written fresh c.update_all.ensures.sound c.update_all-2.ensures.sound
+
+pub update_all-requires-2-clause-keeps : goal.update_all-requires-2-clause-keeps
+update_all-requires-2-clause-keeps c =
+    keeps_references c.args.catalog.now BASE c.args.volatile.now.images c.plan.inside.promoted c.plan.inside.kept (follows c.move_both-tables.result) c.args.fresh.images c.move_both-tables.new.fresh.images
+    c.move_both-tables.ensures.moved

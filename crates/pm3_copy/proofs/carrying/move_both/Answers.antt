@@ -1,8 +1,9 @@
-use Rattle.std.proofs.Common.{◌++◌, ◌+◌, ℕ, List, [], sym, subst}
+use Rattle.std.proofs.Common.{◌++◌, ◌+◌, ◌∙◌, ℕ, List, [], length, ap, sym, subst}
 use Rattle.std.proofs.lemmas.List.{append-nil}
 use Rattle.pm3_core.specs.declared.naming.TheConstants.{BASE}
-use Rattle.pm3_types.specs.PassMoves.{paired, moved_by}
+use Rattle.pm3_types.specs.PassMoves.{IsRising, paired, moved_by}
 use Rattle.pm3_copy.specs.Fresh.{AreNext}
+use Rattle.pm3_copy.specs.Blocks.{AreNumbered}
 use Rattle.pm3_copy.specs.Moving.{AreMoved}
 use Rattle.pm3_copy.proofs.BothMoves.{both_moved}
 use Rattle.pm3_copy.proofs.carrying.move_both.Goals as goal
@@ -25,3 +26,16 @@ returns-clause-settled c first second next long longer =
     let one = c.move_all-table.ensures.settled first second next long in
     let two = c.move_all-others.ensures.settled second [] (subst (AreNext c.move_all-table.new.fresh.images (c.move_all-table.result.last + 1)) (sym (append-nil second)) one.1) longer in
     (one.0.are, two.0.are)
+
+pub returns-clause-tables : goal.returns-clause-tables
+returns-clause-tables c =
+    let first = c.move_all-table.ensures in
+    let second = c.move_all-others.ensures in
+    record {
+      promoted = subst IsRising (sym first.olds) c.requires.promoted_rise;
+      kept = subst IsRising (sym second.olds) c.requires.kept_rise;
+      promoted_numbered = subst (AreNumbered BASE c.args.index.blocks.by_page.items c.args.index.numbers.items) (sym first.olds) c.requires.numbered.0;
+      kept_numbered = subst (AreNumbered BASE c.args.index.blocks.by_page.items c.args.index.numbers.items) (sym second.olds) c.requires.numbered.1;
+      promoted_whole = first.all ∙ sym (ap (λ (xs : List ℕ). length xs) first.olds);
+      kept_whole = second.all ∙ sym (ap (λ (xs : List ℕ). length xs) second.olds);
+    }

@@ -1,6 +1,12 @@
+use Rattle.std.proofs.Common.{◌≤◌, length}
 use Rattle.pm3_core.specs.declared.naming.TheConstants.{BASE}
+use Rattle.pm3_copy.proofs.Passing.{ArePassed}
 use Rattle.pm3_copy.proofs.Picking.{ArePicked}
 use Rattle.pm3_copy.proofs.movers.movers.Given as goal
 
 abbrev pub invariant-loop-i : goal.invariant-loop-i
-invariant-loop-i l = ArePicked BASE l.pinned l.but l.found l.i l.list.items
+invariant-loop-i l = record {
+  picked : ArePicked BASE l.pinned l.but l.found l.i l.list.items;
+  passed : ArePassed l.found.objects l.but l.i l.next;
+  low : l.next ≤ length l.but;
+}

@@ -1,34 +1,86 @@
-use Rattle.std.proofs.Common.{◌∙◌, ℕ, List, ap, subst}
-use Rattle.std.specs.List.{Contains}
+use Rattle.std.proofs.Common.{◌∙◌, ℕ, List, length, ap, sym, subst, arith}
+use Rattle.std.specs.List.{All, Contains}
 use Rattle.pm3_core.specs.declared.naming.TheConstants.{BASE}
-use Rattle.pm3_types.specs.PassMoves.{IsListOf}
-use Rattle.pm3_copy.specs.Finds.{Finds}
-use Rattle.pm3_copy.specs.Spreading.{Picks}
-use Rattle.pm3_copy.proofs.PlanParts.{on_pages, promoted_movers, kept_movers}
+use Rattle.pm3_types.specs.PassMoves.{IsRising, IsListOf}
+use Rattle.pm3_copy.specs.Blocks.{AreNumbered}
+use Rattle.pm3_copy.specs.Spreading.{Picks, before_of}
+use Rattle.pm3_copy.proofs.PlanParts.{few, on_pages, promoted_movers, kept_movers, promoted_objects, kept_objects}
+use Rattle.pm3_copy.proofs.Stayers.{kept_apart}
 use Rattle.pm3_copy.proofs.planning.find_moving.Goals as goal
 
 pub movers-requires-clause-objects : goal.movers-requires-clause-objects
 movers-requires-clause-objects c =
-    let same = c.in_ok-turned.ensures.objects ∙ ap (λ (f : Finds). f.objects) c.in_ok-found.ensures in
+    let same = c.in_ok-turned.ensures.objects in
     on_pages c.args.catalog.now BASE c.args.volatile.now.images c.requires.volatile c.promote.new.found.objects
-    (λ a is. c.in_ok-objects_of.ensures.only a (subst (λ (xs : List ℕ). Contains xs a) same is))
+    (λ a is. c.in_ok-found.ensures.objects.only a (subst (λ (xs : List ℕ). Contains xs a) same is))
+
+pub movers-requires-2-clause-others : goal.movers-requires-2-clause-others
+movers-requires-2-clause-others c =
+    subst (All (Contains c.keep.new.found.objects)) (sym c.deref.ensures.value)
+    (subst (λ (xs : List ℕ). All (Contains xs) c.in_ok-promoted.promoted.items) (sym c.keep.ensures.objects) c.in_ok-promoted.ensures.within)
 
 pub movers-requires-2-clause-objects : goal.movers-requires-2-clause-objects
 movers-requires-2-clause-objects c =
-    let same = c.keep.ensures.objects ∙ c.in_ok-turned.ensures.objects ∙ ap (λ (f : Finds). f.objects) c.in_ok-found.ensures in
+    let same = c.keep.ensures.objects ∙ c.in_ok-turned.ensures.objects in
     on_pages c.args.catalog.now BASE c.args.volatile.now.images c.requires.volatile c.keep.new.found.objects
-    (λ a is. c.in_ok-objects_of.ensures.only a (subst (λ (xs : List ℕ). Contains xs a) same is))
+    (λ a is. c.in_ok-found.ensures.objects.only a (subst (λ (xs : List ℕ). Contains xs a) same is))
 
 pub returns-clause-promoted : goal.returns-clause-promoted
 returns-clause-promoted c =
     promoted_movers c.args.catalog.now BASE c.args.volatile.now.images c.args.written.now.images c.args.pinned.now c.requires.volatile c.promote.new.found c.in_ok-promoted.promoted.items c.in_ok-turned.ensures.promoted
-    c.in_ok-promoted.ensures
+    c.in_ok-promoted.ensures.picked
 
 pub returns-clause-kept : goal.returns-clause-kept
 returns-clause-kept c =
-    let others = subst (λ (xs : List ℕ). IsListOf (Picks BASE c.args.pinned.now xs c.keep.new.found) c.in_ok-kept.kept.items) c.deref.ensures.value c.in_ok-kept.ensures in
+    let others = subst (λ (xs : List ℕ). IsListOf (Picks BASE c.args.pinned.now xs c.keep.new.found) c.in_ok-kept.kept.items) c.deref.ensures.value c.in_ok-kept.ensures.picked in
     kept_movers c.args.catalog.now BASE c.args.volatile.now.images c.args.written.now.images c.args.pinned.now c.requires.volatile c.keep.new.found c.in_ok-promoted.promoted.items c.in_ok-kept.kept.items
     (c.keep.ensures.live c.args.written.now.images c.in_ok-turned.ensures.promoted) (returns-clause-promoted c) others
 
 pub returns-clause-turned : goal.returns-clause-turned
 returns-clause-turned c = c.in_ok-turned.ensures.turned
+
+pub index_of-requires-clause-promoted : goal.index_of-requires-clause-promoted
+index_of-requires-clause-promoted c =
+    subst (All (Contains c.keep.new.found.objects)) (sym c.deref-2.ensures.value)
+    (subst (λ (xs : List ℕ). All (Contains xs) c.in_ok-promoted.promoted.items) (sym c.keep.ensures.objects) c.in_ok-promoted.ensures.within)
+
+pub index_of-requires-clause-kept : goal.index_of-requires-clause-kept
+index_of-requires-clause-kept c = subst (All (Contains c.keep.new.found.objects)) (sym c.deref-3.ensures.value) c.in_ok-kept.ensures.within
+
+pub index_of-requires-clause-apart : goal.index_of-requires-clause-apart
+index_of-requires-clause-apart c a one other =
+    let first = subst (λ (xs : List ℕ). Contains xs a) c.deref-2.ensures.value one in
+    let second = subst (λ (xs : List ℕ). Contains xs a) c.deref-3.ensures.value other in
+    let promoted = promoted_movers c.args.catalog.now BASE c.args.volatile.now.images c.args.written.now.images c.args.pinned.now c.requires.volatile c.promote.new.found c.in_ok-promoted.promoted.items c.in_ok-turned.ensures.promoted
+    c.in_ok-promoted.ensures.picked in
+    let kept = kept_movers c.args.catalog.now BASE c.args.volatile.now.images c.args.written.now.images c.args.pinned.now c.requires.volatile c.keep.new.found c.in_ok-promoted.promoted.items c.in_ok-kept.kept.items
+    (c.keep.ensures.live c.args.written.now.images c.in_ok-turned.ensures.promoted) promoted
+    (subst (λ (xs : List ℕ). IsListOf (Picks BASE c.args.pinned.now xs c.keep.new.found) c.in_ok-kept.kept.items) c.deref.ensures.value c.in_ok-kept.ensures.picked) in
+    kept_apart c.args.catalog.now BASE (before_of c.args.volatile.now.images c.args.written.now.images c.args.pinned.now) a (kept.only a second).0 (promoted.only a first).0
+
+pub index_of-requires-clause-few : goal.index_of-requires-clause-few
+index_of-requires-clause-few c =
+    let promoted = promoted_movers c.args.catalog.now BASE c.args.volatile.now.images c.args.written.now.images c.args.pinned.now c.requires.volatile c.promote.new.found c.in_ok-promoted.promoted.items c.in_ok-turned.ensures.promoted
+    c.in_ok-promoted.ensures.picked in
+    let kept = kept_movers c.args.catalog.now BASE c.args.volatile.now.images c.args.written.now.images c.args.pinned.now c.requires.volatile c.keep.new.found c.in_ok-promoted.promoted.items c.in_ok-kept.kept.items
+    (c.keep.ensures.live c.args.written.now.images c.in_ok-turned.ensures.promoted) promoted
+    (subst (λ (xs : List ℕ). IsListOf (Picks BASE c.args.pinned.now xs c.keep.new.found) c.in_ok-kept.kept.items) c.deref.ensures.value c.in_ok-kept.ensures.picked) in
+    let first = few c.args.catalog.now BASE c.args.volatile.now.images c.requires.volatile c.in_ok-promoted.promoted.items promoted.rising
+    (promoted_objects c.args.catalog.now BASE c.args.volatile.now.images c.args.written.now.images c.args.pinned.now c.requires.volatile c.in_ok-promoted.promoted.items promoted) in
+    let second = few c.args.catalog.now BASE c.args.volatile.now.images c.requires.volatile c.in_ok-kept.kept.items kept.rising
+    (kept_objects c.args.catalog.now BASE c.args.volatile.now.images c.args.written.now.images c.args.pinned.now c.requires.volatile c.in_ok-kept.kept.items kept) in
+    let a = ap (λ (xs : List ℕ). length xs) c.deref-2.ensures.value in
+    let b = ap (λ (xs : List ℕ). length xs) c.deref-3.ensures.value in
+    (omega (arith, first, a), omega (arith, second, b))
+
+pub index_of-requires-clause-promoted_rise : goal.index_of-requires-clause-promoted_rise
+index_of-requires-clause-promoted_rise c = subst IsRising (sym c.deref-2.ensures.value) c.in_ok-promoted.ensures.picked.rising
+
+pub index_of-requires-clause-kept_rise : goal.index_of-requires-clause-kept_rise
+index_of-requires-clause-kept_rise c = subst IsRising (sym c.deref-3.ensures.value) c.in_ok-kept.ensures.picked.rising
+
+pub returns-clause-numbered : goal.returns-clause-numbered
+returns-clause-numbered c = (
+  subst (AreNumbered BASE c.in_ok-index.index.blocks.by_page.items c.in_ok-index.index.numbers.items) c.deref-2.ensures.value c.in_ok-index.ensures.promoted,
+  subst (AreNumbered BASE c.in_ok-index.index.blocks.by_page.items c.in_ok-index.index.numbers.items) c.deref-3.ensures.value c.in_ok-index.ensures.kept,
+)
