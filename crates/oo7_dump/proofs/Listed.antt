@@ -29,9 +29,8 @@ drop_place xs i x is =
     front ∙ ap (λ (n : ℕ). n ∷ drop (i + 1) xs) (get_or_from_slice_get xs i x 0 is)
 
 -- one more line, before those behind it
-pub line_more : (catalog : List Fields) (A : ℕ → Option Record) (met : List ℕ) (k a : ℕ) (object : Record) (text now rest : List ℕ) → A a ≡ Some object
-    → now ≡ text ++ (decimal k ++ codes " " ++ record_text catalog met (Some object) ++ codes "\n") → now ++ object_lines catalog A met (k + 1) rest ≡ text ++ object_lines catalog A met k (a ∷ rest)
-line_more catalog A met k a object text now rest is put =
+pub line_more : (catalog : List Fields) (A : ℕ → Option Record) (met : List ℕ) (k a : ℕ) (text now rest : List ℕ)
+    → now ≡ text ++ (decimal k ++ codes " " ++ record_text catalog met (A a) ++ codes "\n") → now ++ object_lines catalog A met (k + 1) rest ≡ text ++ object_lines catalog A met k (a ∷ rest)
+line_more catalog A met k a text now rest put =
     ap (λ (l : List ℕ). l ++ object_lines catalog A met (k + 1) rest) put
-    ∙ append_assoc text (decimal k ++ codes " " ++ record_text catalog met (Some object) ++ codes "\n") (object_lines catalog A met (k + 1) rest)
-    ∙ ap (λ (o : Option Record). text ++ (decimal k ++ codes " " ++ record_text catalog met o ++ codes "\n" ++ object_lines catalog A met (k + 1) rest)) (sym is)
+    ∙ append_assoc text (decimal k ++ codes " " ++ record_text catalog met (A a) ++ codes "\n") (object_lines catalog A met (k + 1) rest)

@@ -1,27 +1,25 @@
 -- What is met by one reference, or by some and then others.
 use Rattle.std.proofs.Common.{◌≡◌, ◌<◌, ◌≤◌, ◌+◌, ◌++◌, ◌&&◌, ◌||◌, ℕ, Bool, true, false, cond, not, eqb, List, [], ◌∷◌, Option, Some, None, is_some, refl, sym, ap, ◌∙◌, inl, inr, length, take, get_or}
-use Rattle.std.specs.Prelude.{◌==◌, All, slice_index}
+use Rattle.std.specs.Prelude.{◌==◌, slice_index}
 use Rattle.std.specs.FinMap.{get}
 use Rattle.std.specs.List.{position_from}
 use Rattle.std.proofs.lemmas.Bool.{and_parts, cond-true, cond-false, eq-eqb, leb-true, ltb-true, cases_eq, ne_eqb}
 use Rattle.std.proofs.lemmas.List.{take_more}
-use Rattle.std.proofs.lemmas.List.Elements.{All-from_recursion}
 use Rattle.pm3_core.specs.declared.naming.TheConstants.{BASE}
 use Rattle.pm3_types.specs.Fields.{Fields}
 use Rattle.pm3_types.specs.Layout.{PageImage, Sheet, begins_at, is_address, is_forwarded, is_start, is_unmoved, page_in, word_in}
-use Rattle.pm3_types.specs.Numbering.{is_among, meet, names_in, number_of}
+use Rattle.pm3_types.specs.Numbering.{is_among, meet, number_of}
 use Rattle.pm3_types.specs.PageForm.{IsSound, is_memory_reference}
 use Rattle.pm3_types.specs.Record.{Record}
 use Rattle.pm3_types.specs.Shown as shown
-use Rattle.pm3_types.proofs.FormedObjects.{address_of, objects_of, start_of, whole_start}
+use Rattle.pm3_types.proofs.FormedObjects.{address_of, start_of, whole_start}
 use Rattle.pm3_page.specs.PageMap.{Images}
 use Rattle.oo7_dump.specs.Held.{AreAmong}
 use Rattle.oo7_dump.specs.Raw.{raw_at, raw_in, raw_record}
-use Rattle.oo7_dump.proofs.RawNames.{each_reference}
 
 module _ (A : ℕ → Option Record) where
   -- some references, and then others
-  meet_both : (met xs ys : List ℕ) → meet A met (xs ++ ys) ≡ meet A (meet A met xs) ys
+  pub meet_both : (met xs ys : List ℕ) → meet A met (xs ++ ys) ≡ meet A (meet A met xs) ys
   meet_both met [] ys = refl
   meet_both met (x ∷ xs) ys = meet_both (cond (is_some (A x) && not (is_among met x)) (met ++ x ∷ []) met) xs ys
 
@@ -101,12 +99,3 @@ has_place (x ∷ list) a i =
 -- an address has a number exactly where it is among those met
 pub has_number : (list : List ℕ) (a : ℕ) → is_some (number_of list a) ≡ is_among list a
 has_number list a = has_place list a 1
-
--- an object on a page in its form refers to places where objects may begin
-pub object_refers : (catalog : List Fields) (pages : ℕ) (image : PageImage) (a : ℕ) → begins_at BASE image a ≡ true → IsSound catalog BASE pages image
-    → All (λ name. is_memory_reference BASE pages name ≡ true) (names_in catalog (raw_record catalog image.sheet.words (word_in BASE a)))
-object_refers catalog pages image a begins sound =
-    let start = start_of BASE image a begins in
-    let objects = (objects_of catalog (is_memory_reference BASE pages) image.page image.sheet (word_in BASE a) sound start).1 in
-    All-from_recursion (λ name. is_memory_reference BASE pages name ≡ true) (names_in catalog (raw_record catalog image.sheet.words (word_in BASE a)))
-    (each_reference (λ name. is_memory_reference BASE pages name ≡ true) catalog image.sheet (word_in BASE a) (λ k reference. objects.references (word_in BASE a) k start reference))

@@ -4,3 +4,4 @@ pub mod Numbers
 pub mod Held
 pub mod Loads
 pub mod Lost
+pub mod Places

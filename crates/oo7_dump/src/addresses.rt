@@ -1,5 +1,5 @@
 //! The pages and the words that addresses name.
-ghost use Rattle.std.specs.Prelude.{◌≡◌, ◌<◌, true};
+ghost use Rattle.std.specs.Prelude.{◌≡◌, ◌^◌, ◌<◌, true};
 ghost use Rattle.pm3_types.specs.Layout.{is_address, page_in, word_in};
 
 use pm3_core::PAGE_BYTES;
@@ -21,11 +21,38 @@ pub(crate) fn page_of(at: Addr, pages: u32) -> PageNo
     }
 }
 
+/// Whether it is the address of a word of some page.
+#[tactic(auto, unfolding(pm3_types::specs::Layout::is_address))]
+pub(crate) fn is_word(at: Addr) -> bool
+    ensures { result ≡ is_address BASE at }
+{
+    at >= BASE && (at - BASE) % 8 == 0
+}
+
+/// The page on which an address lies.
+#[tactic(auto, unfolding(pm3_types::specs::Layout::page_in), using(pm3_types::proofs::Addressing::above_base))]
+pub(crate) fn page_within(at: Addr) -> usize
+    requires { is_address BASE at ≡ true }
+    ensures page { result ≡ page_in BASE at }
+    ensures low { result < 2 ^ 63 }
+{
+    ((at - BASE) / PAGE_BYTES) as usize
+}
+
 /// The word of its page at which an address lies.
 #[tactic(auto, unfolding(pm3_types::specs::Layout::word_in), using(pm3_types::proofs::Addressing::above_base))]
+pub(crate) fn word_within(at: Addr) -> usize
+    requires { is_address BASE at ≡ true }
+    ensures word { result ≡ word_in BASE at }
+    ensures low { result < 512 }
+{
+    ((at - BASE) % PAGE_BYTES / 8) as usize
+}
+
+/// The word of its page at which an address lies, as a page's faults are told.
 pub(crate) fn word_of(at: Addr) -> u32
     requires { is_address BASE at ≡ true }
     ensures { result ≡ word_in BASE at }
 {
-    ((at - BASE) % PAGE_BYTES / 8) as u32
+    word_within(at) as u32
 }

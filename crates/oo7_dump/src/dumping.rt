@@ -1,29 +1,31 @@
 //! The dump of a store.
-ghost use Rattle.std.specs.Prelude.{◌≡◌, ◌++◌, ℕ, List, Some, None, IsSome, IfOk, IfErr, OnOk, IsErrOf};
+ghost use Rattle.std.specs.Prelude.{◌≡◌, ◌++◌, ℕ, codes, List, Some, None, IsSome, IfOk, IfErr, OnOk, IsErrOf};
 ghost use Rattle.std.specs.FinMap as map;
+ghost use Rattle.std.specs.Fmt.{decimal};
 ghost use Rattle.pm3_core.specs.declared.naming.TheConstants.{BASE};
 ghost use Rattle.pm3_disk.specs.Devices.{HasFailed, HasNotFailed, OnlyReads};
-ghost use Rattle.pm3_types.specs.Dump.{dump, object_lines, text_of};
+ghost use Rattle.pm3_types.specs.Dump.{dump, object_lines, record_text, text_of};
 ghost use Rattle.pm3_types.specs.Graph.{Part};
 ghost use Rattle.pm3_types.specs.Layout.{PageImage};
 ghost use Rattle.pm3_types.specs.Shown as shown;
 ghost use Rattle.pm3_journal.specs.Opened.{IsOpenStore};
 ghost use Rattle.pm3_journal.specs.Opening.{OpenTo};
 ghost use Rattle.oo7_dump.specs.ByAddress.{AreAllMet, IsTextOf};
-ghost use Rattle.oo7_dump.specs.Held.{AreAmong, AreHeld, AreSound};
+ghost use Rattle.oo7_dump.specs.Held.{AreAmong, AreHeld, AreSound, IsHeld};
 ghost use Rattle.oo7_dump.specs.Lost.{HasLost};
 ghost use Rattle.oo7_dump.specs.Raw.{raw_at, root_words};
 
 use crate::catalogs::types_are_sound;
 use crate::faults::DumpFault;
-use crate::looking::{object_at, root_addresses};
+use crate::holding::image_at;
+use crate::looking::root_addresses;
 use crate::met::Met;
 use crate::printing::{put_object, put_roots};
 use crate::text::Text;
 use crate::walking::meet_reached;
 use pm3_disk::Disk;
 use pm3_journal::{Opened, PageFault};
-use pm3_page::Pages;
+use pm3_page::{Addr, Pages};
 use pm3_types::{Catalog, Memory};
 use std::alloc::Global;
 
@@ -134,13 +136,12 @@ fn lines(
     let roots = root_addresses(alloc, images)?;
     let mut text = Text::new(alloc);
     put_roots(&mut text, met, &roots)?;
-    put_objects(alloc, pages, catalog, images, met, &mut text)?;
+    put_objects(pages, catalog, images, met, &mut text)?;
     Ok(text)
 }
 
 /// Adds the lines of the objects that were met.
 fn put_objects(
-    alloc: Global,
     pages: u32,
     catalog: &Catalog,
     images: &Pages,
@@ -156,8 +157,26 @@ fn put_objects(
         let Some(at) = met.at(place) else {
             unreachable!()
         };
-        let object = object_at(alloc, pages, catalog, images, at)?;
-        put_object(text, met, catalog, place as u64 + 1, &object)?;
+        put_object_at(pages, catalog, images, met, text, place as u64 + 1, at)?;
     }
     Ok(())
+}
+
+/// Adds the line of an object that was met.
+fn put_object_at(
+    pages: u32,
+    catalog: &Catalog,
+    images: &Pages,
+    met: &Met,
+    text: &mut Text,
+    number: u64,
+    at: Addr,
+) -> Result<(), Memory>
+    requires sound { AreSound catalog.now pages images.now.images }
+    requires held { IsHeld images.now.images at }
+    ensures { OnOk result ((all : shown.Images) → AreAmong images.now.images all
+        → text.new ≡ text.old ++ (decimal number ++ codes " " ++ record_text catalog.now met.now (raw_at catalog.now BASE all at) ++ codes "\n")) }
+{
+    let image = image_at(pages, images, at);
+    put_object(text, met, catalog, number, image, at)
 }

@@ -5,15 +5,19 @@
 //! images that are held then. The store stays open, and its page file is only read: each page that is reached is loaded once,
 //! and held from then on. A fault of the page file is answered exactly where it failed, and damage only where a reference
 //! that was met leads to no object.
+//!
+//! Objects are read where they lie on the pages that are held, and their numbers stand in a table for each such page, so that an
+//! object takes no memory but its number, its place in the order and its text.
 #![tactic(auto)]
 
 // Why a store isn't dumped.
 mod faults;
 
-// Objects with addresses in place of names, and their numbers.
+// Addresses, the places of an object's body, and the numbers of the objects that were met.
 mod addresses;
 mod met;
 mod object;
+mod tables;
 
 // All objects that the roots reach are met: pages are loaded, references followed, objects looked at in order.
 mod holding;

@@ -1,46 +1,26 @@
 //! What objects and root slots refer to.
-ghost use Rattle.std.specs.Prelude.{◌≡◌, ◌≤◌, ℕ, List, true, All, Some, IsSome, IfOk, OnOk, IsErrOf};
+ghost use Rattle.std.specs.Prelude.{◌≡◌, ◌≤◌, ℕ, List, Some, IsSome, IfOk, OnOk, IsErrOf};
 ghost use Rattle.std.specs.FinMap as map;
 ghost use Rattle.pm3_core.specs.declared.naming.TheConstants.{BASE};
 ghost use Rattle.pm3_types.specs.Layout.{PageImage};
-ghost use Rattle.pm3_types.specs.Numbering.{meet, names_in, names_of};
-ghost use Rattle.pm3_types.specs.PageForm.{is_memory_reference};
-ghost use Rattle.pm3_types.specs.Record.{Fits};
+ghost use Rattle.pm3_types.specs.Numbering.{meet, names_of};
 ghost use Rattle.pm3_types.specs.Shown as shown;
 ghost use Rattle.oo7_dump.specs.Held.{AreAmong, AreHeld, AreSound, IsHeld};
 ghost use Rattle.oo7_dump.specs.Loads.{fault_of, Loads};
 ghost use Rattle.oo7_dump.specs.Lost.{IsOneLost};
+ghost use Rattle.oo7_dump.specs.Places.{HasPlaces};
 ghost use Rattle.oo7_dump.specs.Raw.{raw_at, root_words};
 
-use crate::addresses::{ROOTS_PAGE, page_of};
+use crate::addresses::ROOTS_PAGE;
 use crate::faults::DumpFault;
-use crate::meeting::meet_all;
+use crate::holding::image_at;
+use crate::meeting::meet_places;
 use crate::met::Met;
-use crate::object::Object;
+use crate::object::places_of;
 use pm3_disk::Reader;
 use pm3_page::{Addr, Image, Pages};
-use pm3_types::{Catalog, Memory};
+use pm3_types::{Catalog, Memory, TypeMap};
 use std::alloc::Global;
-
-/// A copy of an object whose page is held.
-pub(crate) fn object_at(
-    alloc: Global,
-    pages: u32,
-    catalog: &Catalog,
-    images: &Pages,
-    at: Addr,
-) -> Result<Object, Memory>
-    requires sound { AreSound catalog.now pages images.now.images }
-    requires held { IsHeld images.now.images at }
-    ensures object { IfOk result (λ object. (all : shown.Images) → AreAmong images.now.images all → raw_at catalog.now BASE all at ≡ Some object) }
-    ensures fits { IfOk result (λ object. Fits catalog.now object) }
-    ensures references { IfOk result (λ object. All (λ name. is_memory_reference BASE pages name ≡ true) (names_in catalog.now object)) }
-{
-    let Some(image) = images.get(page_of(at, pages)) else {
-        unreachable!()
-    };
-    Object::read(alloc, catalog, image, at)
-}
 
 /// Meets what an object refers to that was met.
 pub(crate) fn look_at<R: Reader>(
@@ -64,30 +44,21 @@ pub(crate) fn look_at<R: Reader>(
         × ((all : shown.Images) → AreAmong images.old.images all → names_of catalog.now (raw_at catalog.now BASE all at) ≡ names)
         × IsOneLost catalog.now pages (R.content reader.old) images.new.images names page word }
 {
-    let names = match references_at(alloc, pages, catalog, images, at) {
-        Ok(names) => names,
-        Err(Memory) => return Err(DumpFault::Memory),
-    };
-    meet_all(alloc, reader, pages, catalog, images, met, &names)
+    let (map, places) = parts_at(pages, catalog, images, at);
+    meet_places(alloc, reader, pages, catalog, images, met, map, at, places)
 }
 
-/// The addresses to which an object refers whose page is held.
-fn references_at(
-    alloc: Global,
-    pages: u32,
-    catalog: &Catalog,
-    images: &Pages,
-    at: Addr,
-) -> Result<Vec<Addr>, Memory>
+/// The map of the type of an object whose page is held, and how many places it has for references.
+fn parts_at(pages: u32, catalog: &Catalog, images: &Pages, at: Addr) -> (TypeMap, u32)
     requires sound { AreSound catalog.now pages images.now.images }
     requires held { IsHeld images.now.images at }
-    ensures names { IfOk result (λ names. (all : shown.Images) → AreAmong images.now.images all → names_of catalog.now (raw_at catalog.now BASE all at) ≡ names.items) }
-    ensures references { IfOk result (λ names. All (λ name. is_memory_reference BASE pages name ≡ true) names.items) }
+    ensures { HasPlaces catalog.now pages images.now.images at result.0 result.1 }
 {
-    match object_at(alloc, pages, catalog, images, at) {
-        Ok(object) => object.references(alloc, catalog),
-        Err(Memory) => Err(Memory),
-    }
+    let image = image_at(pages, images, at);
+    let Some(map) = catalog.get(image.type_of(at)) else {
+        unreachable!()
+    };
+    (map, places_of(map, image.tail_len(at)))
 }
 
 /// The addresses in the root slots of page 2, which is held.

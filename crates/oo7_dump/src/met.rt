@@ -1,18 +1,21 @@
 //! The objects that were met, with their numbers.
-ghost use Rattle.std.specs.Prelude.{◌≡◌, ◌^◌, ◌<◌, [], ◌∷◌, ◌++◌, length, slice_get, false, IfSome, OnOk, OnErr};
+ghost use Rattle.std.specs.Prelude.{◌≡◌, ◌^◌, ◌<◌, [], ◌∷◌, ◌++◌, length, slice_get, true, false, IfSome, OnOk, OnErr};
+ghost use Rattle.pm3_core.specs.declared.naming.TheConstants.{BASE};
+ghost use Rattle.pm3_types.specs.Layout.{is_address};
 ghost use Rattle.pm3_types.specs.Numbering.{is_among, number_of};
 
+use crate::addresses::page_within;
+use crate::tables::Tables;
 use pm3_page::Addr;
 use pm3_types::Memory;
 use std::alloc::Global;
-use std::collections::BTreeMap;
 use std::marker::Model;
 
 /// The addresses of the objects that were met, each once, in the order in which they were. The first has the number 1.
 #[derive(Drop)]
 pub(crate) struct Met {
     order: Vec<Addr>,
-    numbers: BTreeMap<Addr, u64>,
+    tables: Tables,
 }
 
 impl Model for Met {
@@ -23,7 +26,7 @@ impl Model for Met {
 
     ghost view = { λ m. m.order.items };
 
-    ghost invariant = { λ m. AreNumbers m.numbers m.order.items };
+    ghost invariant = { λ m. AreNumbers m.tables.ends.items m.tables.numbers.items m.order.items };
 }
 
 impl Met {
@@ -33,7 +36,7 @@ impl Met {
     {
         Met {
             order: Vec::new(alloc),
-            numbers: BTreeMap::new(alloc),
+            tables: Tables::new(alloc),
         }
     }
 
@@ -53,10 +56,10 @@ impl Met {
     }
 
     /// The number of the object at an address, or None exactly where it wasn't met.
-    pub(crate) fn number(&self, at: Addr) -> Option<u64>
+    pub(crate) fn number(&self, at: Addr) -> Option<u32>
         ensures { result ≡ number_of self.now at }
     {
-        self.numbers.get(&at).copied()
+        self.tables.number(at)
     }
 
     /// Whether the object at an address was met.
@@ -68,7 +71,8 @@ impl Met {
 
     /// Adds an object that wasn't met before. After a refusal all is as it was.
     pub(crate) fn add(&mut self, at: Addr) -> Result<(), Memory>
-        requires { is_among self.old at ≡ false }
+        requires new { is_among self.old at ≡ false }
+        requires address { is_address BASE at ≡ true }
         ensures added { OnOk result (self.new ≡ self.old ++ at ∷ []) }
         ensures refused { OnErr result (self.new ≡ self.old) }
     {
@@ -76,12 +80,20 @@ impl Met {
             return Err(Memory);
         };
         let number = self.order.len() as u64 + 1;
-        let Ok(_) = self.numbers.insert(at, number) else {
+        if number > MOST_NUMBERS {
             return Err(Memory);
-        };
+        }
+        match self.tables.make(page_within(at)) {
+            Ok(()) => {}
+            Err(Memory) => return Err(Memory),
+        }
+        self.tables.set(at, number as u32);
         let Ok(()) = self.order.push(at) else {
             unreachable!()
         };
         Ok(())
     }
 }
+
+/// The numbers that a table can hold.
+const MOST_NUMBERS: u64 = 0xffff_ffff;

@@ -1,15 +1,18 @@
 //! The lines of a dump.
-ghost use Rattle.std.specs.Prelude.{◌≡◌, ◌+◌, ◌<◌, ◌++◌, All, IsTrue, cond, codes, length, slice_get, Some, OnOk};
+ghost use Rattle.std.specs.Prelude.{◌≡◌, ◌+◌, ◌*◌, ◌/◌, ◌%◌, ◌≤◌, ◌++◌, true, false, cond, codes, slice_get, slice_index, Some, OnOk};
 ghost use Rattle.std.specs.Fmt.{decimal};
 ghost use Rattle.std.specs.List.{flat_map};
+ghost use Rattle.pm3_core.specs.declared.naming.TheConstants.{BASE};
 ghost use Rattle.pm3_types.specs.Dump.{byte_text, fields_text, name_text, parts_text, record_text, root_lines, tail_text};
-ghost use Rattle.pm3_types.specs.Fields.{has_bytes, is_reference};
-ghost use Rattle.pm3_types.specs.Record.{Fits};
+ghost use Rattle.pm3_types.specs.Layout.{begins_at, head_at, is_forwarded, tail_in, tail_words, type_in, word_in};
+ghost use Rattle.pm3_types.specs.Shown.{byte_in, list_of};
+ghost use Rattle.pm3_types.specs.Whole.{IsWhole};
+ghost use Rattle.oo7_dump.specs.Raw.{raw_fields, raw_items, raw_record};
 
 use crate::met::Met;
-use crate::object::{Object, is_reference_field};
+use crate::object::is_reference_field;
 use crate::text::Text;
-use pm3_page::Addr;
+use pm3_page::{Addr, Image};
 use pm3_types::{Catalog, Memory, Tail, TypeMap};
 
 /// Adds a line for each of these root slots.
@@ -33,55 +36,60 @@ fn put_root(text: &mut Text, met: &Met, slot: u64, at: Addr) -> Result<(), Memor
     text.put(b"\n")
 }
 
-/// Adds the line of the object that has a number.
+/// Adds the line of an object that has a number.
 pub(crate) fn put_object(
     text: &mut Text,
     met: &Met,
     catalog: &Catalog,
     number: u64,
-    object: &Object,
+    image: &Image,
+    at: Addr,
 ) -> Result<(), Memory>
-    requires { Fits catalog.now object.now }
-    ensures { OnOk result (text.new ≡ text.old ++ (decimal number ++ codes " " ++ record_text catalog.now met.now (Some object.now) ++ codes "\n")) }
+    requires begins { begins_at BASE image.now at ≡ true }
+    requires whole { IsWhole catalog.now image.now.sheet (word_in BASE at) }
+    ensures { OnOk result (text.new ≡ text.old ++ (decimal number ++ codes " " ++ record_text catalog.now met.now (Some (raw_record catalog.now image.now.sheet.words (word_in BASE at))) ++ codes "\n")) }
 {
     text.put_number(number)?;
     text.put(b" ")?;
-    text.put_number(u64::from(object.ty))?;
-    put_parts(text, met, catalog, object)?;
+    text.put_number(u64::from(image.type_of(at)))?;
+    put_parts(text, met, catalog, image, at)?;
     text.put(b"\n")
 }
 
 /// Adds the fields and the tail of an object.
-fn put_parts(text: &mut Text, met: &Met, catalog: &Catalog, object: &Object) -> Result<(), Memory>
-    requires { Fits catalog.now object.now }
-    ensures { OnOk result (text.new ≡ text.old ++ parts_text met.now (slice_get catalog.now object.now.ty) object.now) }
+fn put_parts(
+    text: &mut Text,
+    met: &Met,
+    catalog: &Catalog,
+    image: &Image,
+    at: Addr,
+) -> Result<(), Memory>
+    requires begins { begins_at BASE image.now at ≡ true }
+    requires whole { IsWhole catalog.now image.now.sheet (word_in BASE at) }
+    ensures { OnOk result (text.new ≡ text.old ++ parts_text met.now (slice_get catalog.now (type_in (head_at BASE image.now at))) (raw_record catalog.now image.now.sheet.words (word_in BASE at))) }
 {
-    let Some(map) = catalog.get(object.ty) else {
-        return Ok(());
+    let Some(map) = catalog.get(image.type_of(at)) else {
+        unreachable!()
     };
-    put_fields(text, met, map, &object.fields)?;
-    put_tail(text, met, map.tail, &object.tail)
+    put_fields(text, met, map, image, at)?;
+    put_tail(text, met, map, image, at)
 }
 
-/// Adds the references or bytes of a tail.
-fn put_tail(text: &mut Text, met: &Met, tail: Tail, items: &[u64]) -> Result<(), Memory>
-    requires { IsTrue (has_bytes tail) → All (λ b. b < 256) items.now }
-    ensures { OnOk result (text.new ≡ text.old ++ tail_text met.now tail items.now) }
+/// Adds the values of the fields of an object.
+fn put_fields(
+    text: &mut Text,
+    met: &Met,
+    map: TypeMap,
+    image: &Image,
+    at: Addr,
+) -> Result<(), Memory>
+    requires begins { begins_at BASE image.now at ≡ true }
+    requires within { word_in BASE at + 2 + map.count ≤ 512 }
+    ensures { OnOk result (text.new ≡ text.old ++ fields_text met.now map 0 (raw_fields (Some map) image.now.sheet.words (word_in BASE at))) }
 {
-    match tail {
-        Tail::Empty => Ok(()),
-        Tail::Refs => put_references(text, met, items),
-        Tail::Bytes => put_bytes(text, items),
-    }
-}
-
-/// Adds the values of fields.
-fn put_fields(text: &mut Text, met: &Met, map: TypeMap, fields: &[u64]) -> Result<(), Memory>
-    requires { length fields.now ≡ map.count }
-    ensures { OnOk result (text.new ≡ text.old ++ fields_text met.now map 0 fields.now) }
-{
-    for (field, value) in fields.iter().enumerate() {
-        put_field(text, met, is_reference_field(map, field as u32), *value)?;
+    for field in 0..u32::from(map.count) {
+        let is_reference = is_reference_field(map, field);
+        put_field(text, met, is_reference, image.field(at, field))?;
     }
     Ok(())
 }
@@ -99,13 +107,37 @@ fn put_field(text: &mut Text, met: &Met, is_reference: bool, value: u64) -> Resu
     }
 }
 
-/// Adds the references of a tail.
-fn put_references(text: &mut Text, met: &Met, items: &[Addr]) -> Result<(), Memory>
-    ensures { OnOk result (text.new ≡ text.old ++ (codes " *" ++ flat_map (λ n. codes " @" ++ name_text met.now n) items.now)) }
+/// Adds the references or bytes of the tail of an object.
+fn put_tail(text: &mut Text, met: &Met, map: TypeMap, image: &Image, at: Addr) -> Result<(), Memory>
+    requires begins { begins_at BASE image.now at ≡ true }
+    requires unmoved { is_forwarded (head_at BASE image.now at) ≡ false }
+    requires within { word_in BASE at + 2 + map.count + tail_words map.tail (tail_in (head_at BASE image.now at)) ≤ 512 }
+    ensures { OnOk result (text.new ≡ text.old ++ tail_text met.now map.tail (raw_items map.tail image.now.sheet.words (word_in BASE at + 2 + map.count) (tail_in (head_at BASE image.now at)))) }
+{
+    let from = u32::from(map.count);
+    match map.tail {
+        Tail::Empty => Ok(()),
+        Tail::Refs => put_references(text, met, image, at, from, image.tail_len(at)),
+        Tail::Bytes => put_bytes(text, image, at, from, image.tail_len(at)),
+    }
+}
+
+/// Adds so many references of an object, from a place of its body on.
+fn put_references(
+    text: &mut Text,
+    met: &Met,
+    image: &Image,
+    at: Addr,
+    from: u32,
+    count: u32,
+) -> Result<(), Memory>
+    requires begins { begins_at BASE image.now at ≡ true }
+    requires within { word_in BASE at + 2 + from + count ≤ 512 }
+    ensures { OnOk result (text.new ≡ text.old ++ (codes " *" ++ flat_map (λ n. codes " @" ++ name_text met.now n) (list_of count (λ k. slice_index image.now.sheet.words (word_in BASE at + 2 + from + k))))) }
 {
     text.put(b" *")?;
-    for item in items {
-        put_reference(text, met, *item)?;
+    for place in 0..count {
+        put_reference(text, met, image.field(at, from + place))?;
     }
     Ok(())
 }
@@ -118,14 +150,29 @@ fn put_reference(text: &mut Text, met: &Met, item: Addr) -> Result<(), Memory>
     text.put_name(met, item)
 }
 
-/// Adds the bytes of a tail.
-fn put_bytes(text: &mut Text, items: &[u64]) -> Result<(), Memory>
-    requires { All (λ b. b < 256) items.now }
-    ensures { OnOk result (text.new ≡ text.old ++ (codes " #" ++ flat_map byte_text items.now)) }
+/// Adds so many bytes of an object, from a place of its body on.
+fn put_bytes(text: &mut Text, image: &Image, at: Addr, from: u32, count: u32) -> Result<(), Memory>
+    requires begins { begins_at BASE image.now at ≡ true }
+    requires within { word_in BASE at + 2 + from + (count + 7) / 8 ≤ 512 }
+    ensures { OnOk result (text.new ≡ text.old ++ (codes " #" ++ flat_map byte_text (list_of count (λ k. byte_in (slice_index image.now.sheet.words (word_in BASE at + 2 + from + k / 8)) (k % 8))))) }
 {
     text.put(b" #")?;
-    for item in items {
-        text.put_byte(*item as u8)?;
+    put_words(text, image, at, from, count / 8)?;
+    let rest = count % 8;
+    if rest == 0 {
+        return Ok(());
+    }
+    text.put_part(image.field(at, from + count / 8), rest)
+}
+
+/// Adds the bytes of so many words of an object, from a place of its body on.
+fn put_words(text: &mut Text, image: &Image, at: Addr, from: u32, count: u32) -> Result<(), Memory>
+    requires begins { begins_at BASE image.now at ≡ true }
+    requires within { word_in BASE at + 2 + from + count ≤ 512 }
+    ensures { OnOk result (text.new ≡ text.old ++ flat_map byte_text (list_of (8 * count) (λ k. byte_in (slice_index image.now.sheet.words (word_in BASE at + 2 + from + k / 8)) (k % 8)))) }
+{
+    for place in 0..count {
+        text.put_word(image.field(at, from + place))?;
     }
     Ok(())
 }

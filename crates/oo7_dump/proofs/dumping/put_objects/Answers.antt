@@ -11,6 +11,5 @@ loop-place-preserved c = λ all among.
     let met = c.args.met.now in
     let place = c.loop-place.place in
     let front = drop_place met place c.in-Some.at (sym c.at.ensures.at ∙ c.in-Some.is) in
-    line_more c.args.catalog.now A met (place + 1) c.in-Some.at c.in_ok-object.object c.loop-place.text c.put_object.new.text (drop (place + 1) met)
-    (c.in_ok-object.ensures.object all among) c.in_ok-put_object.ensures
+    line_more c.args.catalog.now A met (place + 1) c.in-Some.at c.loop-place.text c.put_object_at.new.text (drop (place + 1) met) (c.in_ok-put_object_at.ensures all among)
     ∙ sym (ap (λ (l : List ℕ). c.loop-place.text ++ object_lines c.args.catalog.now A met (place + 1) l) front) ∙ c.loop-place.invariant all among

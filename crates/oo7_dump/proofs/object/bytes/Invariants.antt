@@ -1,9 +1,0 @@
-use Rattle.std.proofs.Common.{◌≡◌, ◌+◌, ◌/◌, ◌%◌, slice_index}
-use Rattle.pm3_core.specs.declared.naming.TheConstants.{BASE}
-use Rattle.pm3_types.specs.Layout.{word_in}
-use Rattle.pm3_types.specs.Shown.{byte_in, list_of}
-use Rattle.oo7_dump.proofs.object.bytes.Given as goal
-
-abbrev pub invariant-loop-place : goal.invariant-loop-place
-invariant-loop-place l =
-    l.bytes.items ≡ list_of l.place (λ k. byte_in (slice_index l.image.sheet.words (word_in BASE l.at + 2 + (l.from + k / 8))) (k % 8))
