@@ -1,6 +1,6 @@
 //! The command `checkpoint` on devices in memory.
-use crate::samples::{ROOTS, Stored, ended, left_by, recorded, set_byte};
-use crate::tests::{SOUND, Setting, run};
+use crate::samples::{ROOTS, made, recorded, set_byte};
+use crate::trials::{SOUND, Setting, Stored, ended, holds};
 use pm3_disk::MemoryDisk;
 use pm3_types::Catalog;
 use std::alloc::Global;
@@ -9,68 +9,71 @@ use std::thread::Threads;
 
 #[test]
 fn two_empty_files_are_no_store(rt: HostRuntime) -> Result<(), Fail> {
-    let ran = run(&rt, "checkpoint", SOUND)?;
-    assert!(rt; ended(&ran, 5, "fault 5 journal 0\n"));
-    assert_eq!(rt; ran.pages.calls(), 0);
-    Ok(())
+    let end = ended(&rt, "checkpoint", SOUND)?;
+    end.is(5, "fault 5 journal 0\n")?;
+    holds(end.page_calls == 0)
 }
 
 #[test]
 fn a_new_store_is_left_as_it_is(rt: HostRuntime) -> Result<(), Fail> {
-    let made = left_by(rt.alloc(), &run(&rt, "create 64", SOUND)?)?;
-    let ran = run(&rt, "checkpoint", made.setting())?;
-    assert!(rt; ended(&ran, 0, ""));
-    assert_eq!(rt; ran.pages.bytes(), made.pages.as_slice());
-    assert_eq!(rt; ran.journal.bytes(), made.journal.as_slice());
-    Ok(())
+    let store = made(&rt, "create 64")?;
+    let end = ended(&rt, "checkpoint", store.setting())?;
+    end.is(0, "")?;
+    end.left(&store)
+}
+
+/// Fails unless the journal has an open gate no more.
+fn is_carried(store: &Stored) -> Result<(), Fail> {
+    holds(store.journal.get(32) == Some(&0))
 }
 
 #[test]
 fn a_record_is_carried(rt: HostRuntime) -> Result<(), Fail> {
-    let store = recorded(&rt)?;
-    let ran = run(&rt, "checkpoint", store.setting())?;
-    assert!(rt; ended(&ran, 0, ""));
-    assert_eq!(rt; ran.journal.bytes().get(32), Some(&0));
-    let page_2 = ran.pages.bytes().get(8192..8216);
-    assert!(rt; page_2 == ROOTS.get(8..32));
-    Ok(())
+    let end = ended(&rt, "checkpoint", recorded(&rt)?.setting())?;
+    end.is(0, "")?;
+    is_carried(&end.store)?;
+    holds(end.store.pages.get(8192..8216) == ROOTS.get(8..32))
 }
 
-/// Whether a call ends so, and a second one on what it left does the work.
+/// Fails unless a call ends so, and a second one on what it left does the work.
 fn goes_on<R: Threads + Sync + AllocGlobal>(
     rt: &R,
     setting: Setting<'_>,
     status: u8,
-    line: &str,
-) -> Result<bool, Fail> {
-    let ran = run(rt, "checkpoint", setting)?;
-    let left = left_by(rt.alloc(), &ran)?;
-    let again = run(rt, "checkpoint", left.setting())?;
-    let is_done = again.status == 0 && again.journal.bytes().get(32) == Some(&0);
-    Ok(ended(&ran, status, line) && is_done)
+    printed: &str,
+) -> Result<(), Fail> {
+    let end = ended(rt, "checkpoint", setting)?;
+    end.is(status, printed)?;
+    let again = ended(rt, "checkpoint", end.store.setting())?;
+    again.is(0, "")?;
+    is_carried(&again.store)
 }
 
 #[test]
 fn each_call_that_fails_is_told(rt: HostRuntime) -> Result<(), Fail> {
     let store = recorded(&rt)?;
-    let ran = run(&rt, "checkpoint", store.setting())?;
-    for call in 0..ran.pages.calls() {
-        let mut setting = store.setting();
-        setting.pages_fails = Some(call);
-        assert!(rt;
-            goes_on(&rt, setting, 3, "fault 3 pages\n")?,
-            "page file {call}"
-        );
+    let whole = ended(&rt, "checkpoint", store.setting())?;
+    whole.is(0, "")?;
+    for call in 0..whole.page_calls {
+        let setting = store.setting().failing_pages(call);
+        goes_on(&rt, setting, 3, "fault 3 pages\n")?;
     }
-    for call in 0..ran.journal.calls() {
-        let mut setting = store.setting();
-        setting.journal_fails = Some(call);
-        assert!(rt;
-            goes_on(&rt, setting, 4, "fault 4 journal\n")?,
-            "journal {call}"
-        );
+    for call in 0..whole.journal_calls {
+        let setting = store.setting().failing_journal(call);
+        goes_on(&rt, setting, 4, "fault 4 journal\n")?;
     }
     Ok(())
+}
+
+/// Fails unless a record whose journal has another byte at this place is refused so.
+fn journal_is_damaged<R: Threads + Sync + AllocGlobal>(
+    rt: &R,
+    at: usize,
+    printed: &str,
+) -> Result<(), Fail> {
+    let mut store = recorded(rt)?;
+    set_byte(&mut store.journal, at, 17);
+    ended(rt, "checkpoint", store.setting())?.is(5, printed)
 }
 
 #[test]
@@ -78,16 +81,10 @@ fn damage_is_named_at_its_byte(rt: HostRuntime) -> Result<(), Fail> {
     // The zeros behind the number of types.
     let mut store = recorded(&rt)?;
     set_byte(&mut store.pages, 4100, 17);
-    let ran = run(&rt, "checkpoint", store.setting())?;
-    assert!(rt; ended(&ran, 5, "fault 5 pages 4100\n"));
+    ended(&rt, "checkpoint", store.setting())?.is(5, "fault 5 pages 4100\n")?;
     // The journal's version, and the first word of the image of page 2.
-    for (at, line) in [(8, "fault 5 journal 8\n"), (88, "fault 5 journal 88\n")] {
-        let mut store = recorded(&rt)?;
-        set_byte(&mut store.journal, at, 17);
-        let ran = run(&rt, "checkpoint", store.setting())?;
-        assert!(rt; ended(&ran, 5, line), "at {at}");
-    }
-    Ok(())
+    journal_is_damaged(&rt, 8, "fault 5 journal 8\n")?;
+    journal_is_damaged(&rt, 88, "fault 5 journal 88\n")
 }
 
 /// A store without types.
@@ -104,7 +101,5 @@ fn without_types(alloc: Global) -> Result<Stored, Fail> {
 #[test]
 fn a_store_of_other_types_is_refused(rt: HostRuntime) -> Result<(), Fail> {
     let store = without_types(rt.alloc())?;
-    let ran = run(&rt, "checkpoint", store.setting())?;
-    assert!(rt; ended(&ran, 5, "fault 5 pages 4096\n"));
-    Ok(())
+    ended(&rt, "checkpoint", store.setting())?.is(5, "fault 5 pages 4096\n")
 }

@@ -10,6 +10,8 @@ ghost use Rattle.pm3_disk.specs.Paths.{path_of};
 
 // From the words to the answer.
 #[cfg(test)]
+mod append_tests;
+#[cfg(test)]
 mod checkpoint_tests;
 #[cfg(test)]
 mod dump_tests;
@@ -23,6 +25,8 @@ mod samples;
 #[cfg(test)]
 mod tests;
 mod top;
+#[cfg(test)]
+mod trials;
 mod words;
 
 // Commands on a store.

@@ -1,6 +1,5 @@
 //! Stores for the tests of commands, as bytes.
-use crate::tests::{Ran, SOUND, Setting, run};
-use std::alloc::Global;
+use crate::trials::{SOUND, Stored, ended};
 use std::test::Fail;
 use std::thread::Threads;
 
@@ -24,44 +23,44 @@ const CHUNK: [u8; 48] = [
     1, 0, 0, 0, 0, 0, 0, 0, 0, 0, 0, 0, 0, 0, 0, 0,
 ];
 
-/// The bytes of the two files of a store.
-#[derive(Drop)]
-pub(crate) struct Stored {
-    pub(crate) pages: Vec<u8>,
-    pub(crate) journal: Vec<u8>,
-}
-
-impl Stored {
-    /// Devices with these bytes, on which no call fails.
-    pub(crate) fn setting(&self) -> Setting<'_> {
-        Setting {
-            pages: self.pages.as_slice(),
-            journal: self.journal.as_slice(),
-            ..SOUND
-        }
-    }
-}
-
-/// What a call left.
-pub(crate) fn left_by(alloc: Global, ran: &Ran) -> Result<Stored, Fail> {
-    Ok(Stored {
-        pages: Vec::from_slice(alloc, ran.pages.bytes())?,
-        journal: Vec::from_slice(alloc, ran.journal.bytes())?,
-    })
+/// A new store of so many pages as the line says.
+pub(crate) fn made<R: Threads + Sync + AllocGlobal>(rt: &R, line: &str) -> Result<Stored, Fail> {
+    Ok(ended(rt, line, SOUND)?.store)
 }
 
 /// A new store, its journal with a record of the pages 2 and 3.
 pub(crate) fn recorded<R: Threads + Sync + AllocGlobal>(rt: &R) -> Result<Stored, Fail> {
-    let made = run(rt, "create 16", SOUND)?;
-    let mut store = left_by(rt.alloc(), &made)?;
-    store.journal.truncate(32);
-    store.journal.extend_from_slice(&FRONT)?;
-    store.journal.extend_from_slice(&ROOTS)?;
-    store.journal.extend_from_slice(&[0; 4072])?;
-    store.journal.extend_from_slice(&CHUNK)?;
-    store.journal.extend_from_slice(&[0; 4056])?;
-    store.journal.extend_from_slice(&[0; 8])?;
+    let mut store = made(rt, "create 16")?;
+    put_record(&mut store.journal)?;
     Ok(store)
+}
+
+/// Puts the record into the journal of a new store.
+fn put_record(journal: &mut Vec<u8>) -> Result<(), Fail> {
+    journal.truncate(32);
+    journal.extend_from_slice(&FRONT)?;
+    journal.extend_from_slice(&ROOTS)?;
+    put_zeros(journal, 4072)?;
+    journal.extend_from_slice(&CHUNK)?;
+    put_zeros(journal, 4056)?;
+    put_zeros(journal, 8)
+}
+
+/// Puts so many zeros behind bytes.
+fn put_zeros(bytes: &mut Vec<u8>, count: u32) -> Result<(), Fail> {
+    for _ in 0..count {
+        bytes.push(0)?;
+    }
+    Ok(())
+}
+
+/// What a command leaves of a store.
+pub(crate) fn left_by<R: Threads + Sync + AllocGlobal>(
+    rt: &R,
+    line: &str,
+    store: &Stored,
+) -> Result<Stored, Fail> {
+    Ok(ended(rt, line, store.setting())?.store)
 }
 
 /// Sets a byte.
@@ -69,9 +68,4 @@ pub(crate) fn set_byte(bytes: &mut Vec<u8>, at: usize, value: u8) {
     if let Some(byte) = bytes.get_mut(at) {
         *byte = value;
     }
-}
-
-/// Whether a call ended with this status and printed this.
-pub(crate) fn ended(ran: &Ran, status: u8, printed: &str) -> bool {
-    ran.status == status && ran.sink.bytes() == printed.as_bytes()
 }
