@@ -70,6 +70,7 @@ impl<D: Disk> Journal<D> {
         ensures part { IsErrOf result AppendFault.JournalFault
             → Takes D.Disk self.old.disk self.new.disk (HasMaybeOneMore (record_of self.old.next entry.now)) }
         ensures fault { IsErrOf result AppendFault.JournalFault → HasFailed D.Disk self.old.disk self.new.disk }
+        ensures later { D.faults self.old.disk ≤ D.faults self.new.disk }
         ensures honest { OnOk result (HasNotFailed D.Disk self.old.disk self.new.disk) }
     {
         if let Some(seq) = self.stopped {
