@@ -16,8 +16,9 @@ use Rattle.pm3_history.specs.Entry.{Done, images_code}
 use Rattle.pm3_history.specs.State.{State, opening_state}
 use Rattle.pm3_history.specs.Lawful.{AreLawful}
 
--- The catalog, the images that were opened, the summaries of the journal's records, the sequence number that is due first, and
--- the bytes that the two devices tell, or none.
+-- The catalog, the images that were opened, the summaries of the journal's records, the sequence number that is due first, the
+-- bytes that the two devices tell, or none, and of the journal's device how many faults it had counted, and the number at which
+-- the journal was stopped, or none.
 pub record Origin : Type 0 where
   pub catalog : List Fields
   pub images : Images
@@ -25,6 +26,8 @@ pub record Origin : Type 0 where
   pub due : ℕ
   pub file : Option (List ℕ)
   pub journal : Option (List ℕ)
+  pub faults : ℕ
+  pub stopped : Option ℕ
 
 -- The two files are told and open to the state, and each page of the records from 2 on is among the opened images. An origin that opens to no state is loose: nothing is said over it of a
 -- graph, a book or what images show.
@@ -69,8 +72,8 @@ fields_code =
 
 abbrev pub origin_code : Coded Origin
 origin_code =
-    code_by (List Fields × (Images × (List Summary × (ℕ × (Option (List ℕ) × Option (List ℕ))))))
-    (coded× (coded_list fields_code) (coded× images_code (coded× (coded_list summary_code) (coded× coded_ℕ (coded× (coded_option (coded_list coded_ℕ)) (coded_option (coded_list coded_ℕ)))))))
-    (λ o. (o.catalog, (o.images, (o.summaries, (o.due, (o.file, o.journal))))))
-    (λ p. record { catalog = p.0; images = p.1.0; summaries = p.1.1.0; due = p.1.1.1.0; file = p.1.1.1.1.0; journal = p.1.1.1.1.1 })
+    code_by (List Fields × (Images × (List Summary × (ℕ × (Option (List ℕ) × (Option (List ℕ) × (ℕ × Option ℕ)))))))
+    (coded× (coded_list fields_code) (coded× images_code (coded× (coded_list summary_code) (coded× coded_ℕ (coded× (coded_option (coded_list coded_ℕ)) (coded× (coded_option (coded_list coded_ℕ)) (coded× coded_ℕ (coded_option coded_ℕ))))))))
+    (λ o. (o.catalog, (o.images, (o.summaries, (o.due, (o.file, (o.journal, (o.faults, o.stopped))))))))
+    (λ p. record { catalog = p.0; images = p.1.0; summaries = p.1.1.0; due = p.1.1.1.0; file = p.1.1.1.1.0; journal = p.1.1.1.1.1.0; faults = p.1.1.1.1.1.1.0; stopped = p.1.1.1.1.1.1.1 })
     (λ _. refl)

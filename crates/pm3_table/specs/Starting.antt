@@ -47,7 +47,7 @@ spent_view = bare_view false 0 0
 
 -- an opening of which nothing is told
 abbrev pub blank_origin : Origin
-blank_origin = record { catalog = []; images = empty; summaries = []; due = 0; file = None; journal = None }
+blank_origin = record { catalog = []; images = empty; summaries = []; due = 0; file = None; journal = None; faults = 0; stopped = None }
 
 -- a table without pages
 abbrev pub blank_told : Told

@@ -32,5 +32,5 @@ impl Model for Opening {
 
     ghost coded = { origin_code };
 
-    ghost view = { λ _. record { catalog = []; images = empty; summaries = []; due = 0; file = None; journal = None } };
+    ghost view = { λ _. record { catalog = []; images = empty; summaries = []; due = 0; file = None; journal = None; faults = 0; stopped = None } };
 }

@@ -29,4 +29,4 @@ nothing_by k = record blank_done { mutator = k }
 
 -- an opening of which nothing is told
 abbrev pub untold : Origin
-untold = record { catalog = []; images = empty; summaries = []; due = 0; file = None; journal = None }
+untold = record { catalog = []; images = empty; summaries = []; due = 0; file = None; journal = None; faults = 0; stopped = None }
