@@ -11,7 +11,10 @@ pub use tables::{drain, sixteen, use_up_rows};
 pub use tallies::Tally;
 pub use turns::{commit_nothing, hold_page, hold_turn};
 pub use volatile::{grow, hold_seen, mark_seen, unmark_seen, word_of_page};
-pub use workers::{mark_and_scan, mark_beside, store_and_validate, write_both, write_down};
+pub use workers::{
+    hold_and_store, hold_beside, mark_and_scan, mark_beside, store_and_validate, write_both,
+    write_down,
+};
 
 #[cfg(test)]
 mod tests;

@@ -190,6 +190,23 @@ fn two_threads_write_their_rows(rt: HostRuntime) -> Result<(), Fail> {
 }
 
 #[test]
+fn two_threads_hold_pages_and_store_beside_each_other(rt: HostRuntime) -> Result<(), Fail> {
+    let (shared, mut first) = sixteen(rt.alloc(), 16)?;
+    let Ok(second) = shared.split(&mut first) else {
+        return Err(Fail::new("no row"));
+    };
+    let word = BASE + PAGE_BYTES * 4 + 8;
+    let held = hold_beside(
+        &rt,
+        &shared,
+        (first, 4, word + PAGE_BYTES),
+        (second, 5, word),
+    );
+    assert_eq!(rt; held, (true, true));
+    Ok(())
+}
+
+#[test]
 fn a_mark_beside_a_validation_sees_what_stands(rt: HostRuntime) -> Result<(), Fail> {
     let (shared, mut first) = sixteen(rt.alloc(), 3)?;
     let Ok(second) = shared.split(&mut first) else {

@@ -1,12 +1,14 @@
 //! What two mutators do with one table beside each other.
-ghost use Rattle.std.specs.Prelude.{◌≡◌, ℕ, ◌<◌, false, [], length, slice_index};
+ghost use Rattle.std.specs.Prelude.{◌≡◌, ℕ, ◌<◌, true, false, [], length, slice_index};
 ghost use Rattle.pm3_core.specs.declared.events.TheConstants.{PLACES};
 ghost use Rattle.pm3_core.specs.Naming.{Names};
 ghost use Rattle.pm3_table.specs.Deeds.{marks_of, IsClearedIn};
+ghost use Rattle.pm3_table.specs.Holds.{holds_of};
 ghost use Rattle.pm3_table.specs.Passes.{IsOf};
-ghost use Rattle.pm3_table.specs.Telling.{HasInSpace};
+ghost use Rattle.pm3_table.specs.Telling.{HasInSpace, is_steady};
 
 use crate::tallies::Tally;
+use crate::turns::hold_page;
 use pm3_rows::{Words, mark, read_one, scan, store_word, validate};
 use pm3_table::{Pass, Shared};
 use std::thread;
@@ -119,4 +121,54 @@ pub fn mark_beside<R: Threads + Sync>(
     let (_, read) = marking;
     let (_, stands) = storing;
     !stands || read.get(row, 0) == word
+}
+
+/// Takes a page and gives it back, and then stores a word and validates it. The answer tells whether nothing was refused.
+pub fn hold_and_store(
+    shared: &Shared<Tally>,
+    mut pass: Pass<Tally>,
+    page: u32,
+    word: u64,
+) -> (Pass<Tally>, bool)
+    requires of { IsOf pass shared.now }
+    requires low { page < shared.now.1.pages }
+    requires free { holds_of pass.1.holds page ≡ false }
+    requires steady { is_steady shared.now.1 pass.1 page ≡ true }
+    ensures { IsOf result.0 shared.now }
+{
+    let was_free = hold_page(shared, &mut pass, page).is_ok();
+    let (pass, stands) = store_and_validate(shared, pass, word);
+    (pass, was_free && stands)
+}
+
+/// Two mutators do so beside each other, each with a page and a word of its own.
+pub fn hold_beside<R: Threads + Sync>(
+    rt: &R,
+    shared: &Shared<Tally>,
+    first: (Pass<Tally>, u32, u64),
+    second: (Pass<Tally>, u32, u64),
+) -> (bool, bool)
+    requires of { IsOf first.0 shared.now × IsOf second.0 shared.now }
+    requires low { (first.1 < shared.now.1.pages) × (second.1 < shared.now.1.pages) }
+    requires free { (holds_of first.0.1.holds first.1 ≡ false) × (holds_of second.0.1.holds second.1 ≡ false) }
+    requires steady { (is_steady shared.now.1 first.0.1 first.1 ≡ true) × (is_steady shared.now.1 second.0.1 second.1 ≡ true) }
+{
+    let (pass, page, word) = first;
+    let (other, other_page, other_word) = second;
+    let ((_, one), (_, two)) = thread::join(
+        rt,
+        move || -> (Pass<Tally>, bool)
+            requires of { IsOf pass shared.now }
+            requires low { page < shared.now.1.pages }
+            requires free { holds_of pass.1.holds page ≡ false }
+            requires steady { is_steady shared.now.1 pass.1 page ≡ true }
+        { hold_and_store(shared, pass, page, word) },
+        move || -> (Pass<Tally>, bool)
+            requires of { IsOf other shared.now }
+            requires low { other_page < shared.now.1.pages }
+            requires free { holds_of other.1.holds other_page ≡ false }
+            requires steady { is_steady shared.now.1 other.1 other_page ≡ true }
+        { hold_and_store(shared, other, other_page, other_word) },
+    );
+    (one, two)
 }
