@@ -1,0 +1,84 @@
+-- Each access to a root slot is one operation more of its transaction.
+use Rattle.std.proofs.Common.{◌≡◌, ◌<◌, ◌∙◌, ℕ, true, List, Option, Some, refl, sym, subst}
+use Rattle.atomic_table.specs.Seated.{TableId}
+use Rattle.pm3_access.specs.Holding.{Holding}
+use Rattle.pm3_access.specs.Roots.{root_held, root_written}
+use Rattle.pm3_table.specs.declared.unit.Busy.{Busy}
+use Rattle.pm3_table.specs.declared.view.Told.{Told}
+use Rattle.pm3_txn.specs.declared.faults.AccessFault.{AccessFault}
+use Rattle.pm3_txn.specs.Knowing.{KnowsWord}
+use Rattle.pm3_txn.specs.Placing.{IsPlaced, IsRefusedPlace, busy_fault}
+use Rattle.pm3_txn.specs.Refusals.{with_read, word_at}
+use Rattle.pm3_txn.specs.RootAccess.{HasRootRead, HasRootReadInto, HasRootStored, HasRootWritten, IsRootMarked}
+use Rattle.pm3_txn.specs.States.{MutatorState, TxnState, told_in, view_in}
+use Rattle.pm3_txn.specs.Touching.{HasTouched, nothing_more}
+use Rattle.pm3_txn.specs.Underway.{Belongs, IsUnder, IsUnderway}
+use Rattle.pm3_txn.proofs.Advancing.{advances_both}
+use Rattle.pm3_txn.proofs.Answering.{root_advances, root_word, set_root_advances, under_rooted}
+
+module _ {R : Type 0} (content : R → Option (List ℕ)) where
+  -- an address that stands in a slot of the page that was touched
+  module _ (old new : TxnState R) (slot x : ℕ) (low : slot < 16) (underway : IsUnderway content new) (touched : HasTouched old new 2 nothing_more) (is : root_held new.held slot ≡ Some x) where
+    pub root_here : HasRootRead old new slot x
+    root_here = record {
+      touched = touched;
+      value = is;
+      goes_on = advances_both old new new nothing_more _ touched.same.heap touched.goes_on
+          (root_advances (told_in new) (view_in new) new.held underway.under underway.belongs.lawful slot x low is);
+    }
+
+    pub root_word_here : KnowsWord (told_in new) (view_in new) x
+    root_word_here = root_word (told_in new) (view_in new) new.held underway.under underway.belongs.lawful slot x low is
+
+  -- an address that was written there
+  module _ (heap : TableId × Told) (m : MutatorState R) (h now : Holding) (tag slot x : ℕ) (low : slot < 16) (belongs : Belongs content heap m) (under : IsUnder heap.1 m.pass.1 h)
+      (word : KnowsWord heap.1 m.pass.1 x) (is : root_written h slot x ≡ Some now) where
+    pub root_store_under : IsUnderway content (record { heap = heap; mutator = m; held = now; tag = tag })
+    root_store_under = record { belongs = belongs; under = under_rooted heap.1 m.pass.1 h under belongs.lawful now slot x low word is }
+
+    pub root_stored_here : HasRootStored (record { heap = heap; mutator = m; held = h; tag = tag }) (record { heap = heap; mutator = m; held = now; tag = tag }) slot x
+    root_stored_here = record { rest = refl; written = is; goes_on = set_root_advances heap.1 m.pass.1 h under belongs.lawful now slot x low word is }
+
+module _ {R : Type 0} where
+  pub root_placed : (old mid new : TxnState R) (slot j x : ℕ) → HasRootRead old mid slot x → IsPlaced mid new j x true → HasRootReadInto old new slot j
+  root_placed old mid new slot j x read placed = record {
+    mid = mid;
+    word = x;
+    read = read;
+    placed = placed;
+    goes_on = advances_both old mid new _ nothing_more read.touched.same.heap read.goes_on placed.goes_on;
+  }
+
+  pub root_marked : (old mid new : TxnState R) (slot j x : ℕ) (busy : Busy) (fault : AccessFault) → HasRootRead old mid slot x → IsRefusedPlace mid new j x busy → fault ≡ busy_fault busy
+      → IsRootMarked old new slot j fault
+  root_marked old mid new slot j x busy fault read refused is = record {
+    mid = mid;
+    word = x;
+    read = read;
+    busy = busy;
+    refused = refused;
+    fault_is = is;
+    goes_on = advances_both old mid new nothing_more nothing_more read.touched.same.heap read.touched.goes_on refused.goes_on;
+  }
+
+  -- a word of the row that was read once page 2 was held
+  touched_read : (old mid : TxnState R) (k : ℕ) → HasTouched old mid 2 nothing_more → HasTouched old (with_read mid k) 2 nothing_more
+  touched_read old mid k t = (let s = t.same in record {
+    same = record { heap = s.heap; tag = s.tag; table = s.table; space = s.space; refs = s.refs; wrote = s.wrote; words = s.words; stands = s.stands; marks = s.marks; row = s.row; mine = s.mine; faults = s.faults };
+    refusals = t.refusals;
+    holds = t.holds;
+    held = t.held;
+    others = t.others;
+    goes_on = t.goes_on;
+  })
+
+  pub root_stored_from : (old mid next new : TxnState R) (slot k x : ℕ) → HasTouched old mid 2 nothing_more → next ≡ with_read mid k → x ≡ word_at mid k → HasRootStored next new slot x
+      → HasRootWritten old new slot (word_at old k)
+  root_stored_from old mid next new slot k x touched read word stored =
+      let then : HasTouched old next 2 nothing_more = subst (λ t. HasTouched old t 2 nothing_more) (sym read) (touched_read old mid k touched) in
+      subst (HasRootWritten old new slot) (word ∙ touched.same.words k) (record {
+        mid = next;
+        touched = then;
+        stored = stored;
+        goes_on = advances_both old next new nothing_more _ then.same.heap then.goes_on stored.goes_on;
+      })

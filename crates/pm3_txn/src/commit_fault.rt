@@ -1,0 +1,49 @@
+//! How a commit is refused, and how it fails.
+use crate::mutator::Mutator;
+use crate::transaction::Txn;
+use pm3_disk::Disk;
+use pm3_table::{Limit, Unit};
+use thiserror::Error;
+
+/// Why a commit was refused before anything was written: the transaction goes on.
+#[derive(Clone, Copy, Debug, PartialEq, Eq, Error)]
+pub enum CommitRefusal {
+    /// The turn's word showed another holder.
+    #[error("another mutator commits")]
+    Busy { unit: Unit, word: u64 },
+    /// A limit was reached.
+    #[error("a limit of {limit} was reached")]
+    Full { what: Limit, limit: u64 },
+    /// There is no memory.
+    #[error("there is no memory")]
+    Memory,
+    /// The transaction holds its space, for which there is no pass yet.
+    #[error("a transaction that holds its space does not commit yet")]
+    Later,
+}
+
+/// Why a commit ended its transaction, whose objects are as they were found.
+#[derive(Clone, Copy, Debug, PartialEq, Eq, Error)]
+pub enum CommitEnd {
+    /// The journal's device failed. The record is on it or not, and no commit follows.
+    #[error("the journal's device failed")]
+    JournalFault,
+    /// The record would end past the journal's limit of so many bytes.
+    #[error("the journal would pass its limit of {limit}")]
+    Full { what: Limit, limit: u64 },
+    /// The journal was stopped when this number was due.
+    #[error("the journal stopped before record {seq}")]
+    Stopped { seq: u64 },
+}
+
+/// A commit that gave no receipt. Where it was refused the transaction is as it was; else it has ended as by an abort.
+pub enum CommitFault<'h, D: Disk> {
+    Refused {
+        cause: CommitRefusal,
+        txn: Txn<'h, D>,
+    },
+    Ended {
+        cause: CommitEnd,
+        mutator: Mutator<D>,
+    },
+}
