@@ -13,9 +13,13 @@ mod steps;
 #[derive(Drop)]
 pub struct Core {
     alloc: Global,
+    /// How many pages the store has.
     pages: u32,
+    /// The words of all rows, one row after another.
     words: Vec<u64>,
+    /// Of each word, whether its place stands.
     stands: Vec<bool>,
+    /// The marked pages, and what was read since.
     marks: PageMarks,
 }
 

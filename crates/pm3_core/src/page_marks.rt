@@ -9,10 +9,14 @@ use crate::readings::Reading;
 use std::alloc::{AllocError, Global};
 use std::marker::Model;
 
+/// The marks of the pages of a store.
 #[derive(Drop)]
 pub(crate) struct PageMarks {
+    /// Of each page, its mark and the places read off since, if it has one.
     readings: Vec<Option<Reading>>,
+    /// The marked pages, in no order: a read looks at these alone.
     listed: Vec<u32>,
+    /// Of each marked page, its place in that list.
     seats: Vec<usize>,
 }
 

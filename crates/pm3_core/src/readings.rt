@@ -7,10 +7,14 @@ use crate::events::PLACES;
 use std::alloc::{AllocError, Global};
 use std::marker::Model;
 
+/// The mark of a page.
 #[derive(Drop)]
 pub(crate) struct Reading {
+    /// Who made the mark.
     who: u32,
+    /// Of each place, whether it was read off since.
     read: Vec<bool>,
+    /// How many places were not.
     left: usize,
 }
 

@@ -1,5 +1,5 @@
 -- What the clauses of a disk say of a disk in memory, whose calls are recorded.
-use Rattle.std.proofs.Common.{◌≡◌, inl, inr, ⊎_elim, ℕ, ◌≤◌, Bool, true, false, List, ◌∷◌, length, Result, Ok, Err, OnErr, refl, sym, subst, arith}
+use Rattle.std.proofs.Common.{◌≡◌, inl, inr, ⊎_elim, ℕ, ◌+◌, ◌≤◌, Bool, true, false, List, ◌∷◌, length, Result, Ok, Err, OnErr, refl, sym, subst, arith}
 use Rattle.pm3_disk.specs.Content.{Steps, TornCut, TornWrite, Unchanged}
 use Rattle.pm3_disk.specs.Moments.{Passes, After}
 use Rattle.pm3_disk.specs.Reading.{leaves_present}
@@ -28,6 +28,12 @@ passes_recorded well badly old new (Err e) P (inl (listed, is)) has_well has_bad
     subst (λ (r : Recording). Passes (moment_of old) (moment_of r) (may_leave_of old) (may_leave_of r) P) (sym is) (passes_call old.began old.calls badly P has_badly)
 passes_recorded well badly old new (Err e) P (inr is) has_well has_badly =
     subst (λ (r : Recording). Passes (moment_of old) (moment_of r) (may_leave_of old) (may_leave_of r) P) (sym is) (no_call P)
+
+-- a call is one moment at most
+pub single_call : {T E : Type 0} (well badly : Call) (old new : Recording) (result : Result T E) → IsRecorded well badly old new result → moment_of new ≤ moment_of old + 1
+single_call well badly old new (Ok x) (free, is) = subst (λ (r : Recording). moment_of r ≤ moment_of old + 1) (sym is) (omega arith)
+single_call well badly old new (Err e) (inl (listed, is)) = subst (λ (r : Recording). moment_of r ≤ moment_of old + 1) (sym is) (omega arith)
+single_call well badly old new (Err e) (inr is) = subst (λ (r : Recording). moment_of r ≤ moment_of old + 1) (sym is) (omega arith)
 
 looked_after : (old : Recording) (left : List ℕ) → MayLeave old.began (Looked ∷ old.calls) left → After (may_leave_of old (moment_of old)) Unchanged left
 looked_after old left is = (left, leaves_present old.began old.calls left is, refl)

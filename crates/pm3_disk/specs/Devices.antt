@@ -1,5 +1,5 @@
 -- What calls do to a disk, said of the disk as a whole.
-use Rattle.std.specs.Prelude.{◌≡◌, ℕ, ◌≤◌, List, length, option_map, Result}
+use Rattle.std.specs.Prelude.{◌≡◌, ℕ, ◌+◌, ◌≤◌, List, length, option_map, Result}
 use Rattle.pm3_disk.specs.Content.{IfTold, Steps, Unchanged}
 use Rattle.pm3_disk.specs.Faults.{HasCause, Rose}
 use Rattle.pm3_disk.specs.Moments.{After, IsSettled, Passes}
@@ -25,6 +25,10 @@ module _ {D R : Type 0} (g : Ghosts D R) where
   -- or by this step from the bytes of the disk as it was, where it tells them
   abbrev pub LeavesFromTold : D → D → (List ℕ → List ℕ → Type 0) → Type 0
   LeavesFromTold old new step = LeavesOnly old new (λ left. IfTold (g.content old) (λ bytes. step bytes left))
+
+  -- at most so many calls were made on the disk
+  abbrev pub MakesAtMost : ℕ → D → D → Type 0
+  MakesAtMost count old new = g.moment new ≤ g.moment old + count
 
   -- a fault of the disk was counted
   abbrev pub HasFailed : D → D → Type 0

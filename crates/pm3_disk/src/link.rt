@@ -12,12 +12,16 @@ use std::path::Path;
 #[derive(Drop)]
 pub(crate) struct Link<S: System + Drop> {
     pub(crate) system: S,
+    /// Where the file is.
     pub(crate) path: String,
+    /// The open file, from the first call on that could open it.
     pub(crate) file: Option<S::File>,
+    /// Whether the file's entry in its folder was synced.
     is_in_folder: bool,
 }
 
 impl<S: System + Drop> Link<S> {
+    /// A file at a path, which is not opened yet.
     pub(crate) fn at(alloc: Global, system: S, path: &str) -> Result<Link<S>, Memory>
         ensures { IfOk result (λ link. string_bytes link.path ≡ path.now) }
     {
@@ -29,6 +33,7 @@ impl<S: System + Drop> Link<S> {
         })
     }
 
+    /// The open file. Where it cannot be opened each call tries again, and fails.
     fn open(&mut self) -> io::Result<&mut S::File> {
         if self.file.is_none() {
             let file = self.system.open(self.path.as_str())?;
@@ -40,16 +45,19 @@ impl<S: System + Drop> Link<S> {
         }
     }
 
+    /// How many bytes the file has.
     pub(crate) fn len(&mut self) -> io::Result<u64> {
         self.open()?.size()
     }
 
+    /// Reads at an offset, in as many pieces as the system gives.
     pub(crate) fn read_at(&mut self, at: u64, out: &mut [u8]) -> io::Result<usize>
         ensures { IfOk result (λ count. count ≤ length out.new) }
     {
         read_from(self.open()?, at, out)
     }
 
+    /// Writes at an offset, in as many pieces as the system takes.
     pub(crate) fn write_at(&mut self, at: u64, bytes: &[u8]) -> io::Result<()> {
         write_to(self.open()?, at, bytes)
     }

@@ -12,7 +12,9 @@ use std::marker::Model;
 #[derive(Drop)]
 pub(crate) struct Medium {
     alloc: Global,
+    /// The bytes at first, or None as long as they are the present ones.
     began: Option<Bytes>,
+    /// The bytes as they are.
     present: Vec<u8>,
 }
 

@@ -29,10 +29,15 @@ use std::marker::Model;
 #[derive(Drop)]
 pub struct MemoryDisk {
     alloc: Global,
+    /// The bytes at first and now.
     medium: Medium,
+    /// The calls that were recorded.
     history: History,
+    /// The numbers of the calls that fail.
     fails: Vec<u32>,
+    /// How many calls have failed, those of readers that came back among them.
     faults: u64,
+    /// How many of these were for want of memory.
     wanted: u32,
 }
 
@@ -98,12 +103,14 @@ impl MemoryDisk {
         Ok(MemoryDisk::new(self.alloc, left, Vec::new(self.alloc)))
     }
 
+    /// Whether the next call is one that fails.
     fn fails_next(&self) -> bool
         ensures { IsTrue result ↔ Contains self.now.fails (length self.now.calls) }
     {
         is_listed(&self.fails, u64::from(self.history.len()))
     }
 
+    /// The numbers of the calls that fail.
     fn list(&self) -> &[u32]
         ensures { result.now ≡ self.now.fails }
     {
@@ -181,6 +188,7 @@ impl MemoryDisk {
         }
     }
 
+    /// A sync, which is recorded as a look where it fails.
     fn settle(&mut self) -> Result<(), Failed>
         ensures call { IsRecorded Call.Synced Call.Looked self.old self.new result }
         ensures later { self.old.faults ≤ self.new.faults }
@@ -194,6 +202,7 @@ impl MemoryDisk {
         }
     }
 
+    /// A write, of the first half of the bytes where it fails.
     fn write(&mut self, at: u64, bytes: &[u8]) -> Result<(), Failed>
         requires { at ≤ length (content_after self.old.began self.old.calls) }
         ensures call { IsRecorded (Call.Wrote at bytes.now true) (Call.Wrote at bytes.now false) self.old self.new result }
@@ -211,6 +220,7 @@ impl MemoryDisk {
         }
     }
 
+    /// A cut, which is recorded as a look where it fails.
     fn cut_to(&mut self, len: u64) -> Result<(), Failed>
         ensures call { IsRecorded (Call.Shortened len) Call.Looked self.old self.new result }
         ensures later { self.old.faults ≤ self.new.faults }
@@ -224,6 +234,7 @@ impl MemoryDisk {
         }
     }
 
+    /// A reader with a copy of the bytes, whose calls are numbered on from those of the disk.
     fn read_back(&mut self) -> Result<MemoryReader, Failed>
         ensures call { IsRecorded Call.Looked Call.Looked self.old self.new result }
         ensures later { self.old.faults ≤ self.new.faults }
@@ -257,6 +268,7 @@ impl Disk for MemoryDisk {
         ensures len { IfOk result (λ len. IfTold (content_of self.old) (λ bytes. len ≡ length bytes)) }
         ensures same { content_of self.new ≡ content_of self.old }
         ensures crash { Passes (moment_of self.old) (moment_of self.new) (may_leave_of self.old) (may_leave_of self.new) (After (may_leave_of self.old (moment_of self.old)) Unchanged) }
+        ensures single { moment_of self.new ≤ moment_of self.old + 1 }
         ensures cause { HasCause self.old.faults self.new.faults result }
         ensures call { IsRecorded Call.Looked Call.Looked self.old self.new result }
     {
@@ -271,6 +283,7 @@ impl Disk for MemoryDisk {
         ensures bytes { IfOk result (λ count. IfTold (content_of self.old) (λ bytes. IsRead bytes at count out.new)) }
         ensures same { content_of self.new ≡ content_of self.old }
         ensures crash { Passes (moment_of self.old) (moment_of self.new) (may_leave_of self.old) (may_leave_of self.new) (After (may_leave_of self.old (moment_of self.old)) Unchanged) }
+        ensures single { moment_of self.new ≤ moment_of self.old + 1 }
         ensures cause { HasCause self.old.faults self.new.faults result }
         ensures call { IsRecorded Call.Looked Call.Looked self.old self.new result }
     {
@@ -285,6 +298,7 @@ impl Disk for MemoryDisk {
         ensures written { OnOk result (content_of self.new ≡ option_map (overwrite at bytes.now) (content_of self.old)) }
         ensures torn { OnErr result (Steps (TornWrite at (length bytes.now)) (content_of self.old) (content_of self.new)) }
         ensures crash { Passes (moment_of self.old) (moment_of self.new) (may_leave_of self.old) (may_leave_of self.new) (After (may_leave_of self.old (moment_of self.old)) (TornWrite at (length bytes.now))) }
+        ensures single { moment_of self.new ≤ moment_of self.old + 1 }
         ensures cause { HasCause self.old.faults self.new.faults result }
         ensures call { IsRecorded (Call.Wrote at bytes.now true) (Call.Wrote at bytes.now false) self.old self.new result }
     {
@@ -295,6 +309,7 @@ impl Disk for MemoryDisk {
         ensures cut { OnOk result (content_of self.new ≡ option_map (take len) (content_of self.old)) }
         ensures torn { OnErr result (Steps (TornCut len) (content_of self.old) (content_of self.new)) }
         ensures crash { Passes (moment_of self.old) (moment_of self.new) (may_leave_of self.old) (may_leave_of self.new) (After (may_leave_of self.old (moment_of self.old)) (TornCut len)) }
+        ensures single { moment_of self.new ≤ moment_of self.old + 1 }
         ensures cause { HasCause self.old.faults self.new.faults result }
         ensures call { IsRecorded (Call.Shortened len) Call.Looked self.old self.new result }
     {
@@ -305,6 +320,7 @@ impl Disk for MemoryDisk {
         ensures settled { OnOk result (IsSettled (content_of self.new) (may_leave_of self.new (moment_of self.new))) }
         ensures same { content_of self.new ≡ content_of self.old }
         ensures crash { Passes (moment_of self.old) (moment_of self.new) (may_leave_of self.old) (may_leave_of self.new) (After (may_leave_of self.old (moment_of self.old)) Unchanged) }
+        ensures single { moment_of self.new ≤ moment_of self.old + 1 }
         ensures cause { HasCause self.old.faults self.new.faults result }
         ensures call { IsRecorded Call.Synced Call.Looked self.old self.new result }
     {
@@ -316,6 +332,7 @@ impl Disk for MemoryDisk {
         ensures fresh { IfOk result (λ reader. reader.plan.faults ≡ 0) }
         ensures same { content_of self.new ≡ content_of self.old }
         ensures crash { Passes (moment_of self.old) (moment_of self.new) (may_leave_of self.old) (may_leave_of self.new) (After (may_leave_of self.old (moment_of self.old)) Unchanged) }
+        ensures single { moment_of self.new ≤ moment_of self.old + 1 }
         ensures cause { HasCause self.old.faults self.new.faults result }
         ensures call { IsRecorded Call.Looked Call.Looked self.old self.new result }
         ensures numbers { IfOk result (λ reader. reader.plan ≡ record { fails = self.old.fails; next = length self.old.calls + 1; faults = 0 }) }
@@ -326,6 +343,7 @@ impl Disk for MemoryDisk {
     fn absorb(&mut self, reader: MemoryReader)
         ensures same { content_of self.new ≡ content_of self.old }
         ensures crash { Passes (moment_of self.old) (moment_of self.new) (may_leave_of self.old) (may_leave_of self.new) (After (may_leave_of self.old (moment_of self.old)) Unchanged) }
+        ensures single { moment_of self.new ≤ moment_of self.old + 1 }
         ensures later { self.old.faults ≤ self.new.faults }
         ensures rose { 0 < reader.plan.faults → Rose self.old.faults self.new.faults }
         ensures counted { self.new ≡ record self.old { faults = min (self.old.faults + reader.plan.faults) (2 ^ 64 - 1) } }

@@ -11,8 +11,11 @@ use std::marker::Model;
 /// Keeps the bytes that it is given, and fails at the calls of a list.
 #[derive(Drop)]
 pub struct MemorySink {
+    /// The bytes that it was given.
     taken: Vec<u8>,
+    /// Which of its calls fail.
     schedule: Schedule,
+    /// How many faults were for want of memory.
     wanted: u32,
 }
 

@@ -12,8 +12,11 @@ use std::marker::Model;
 /// Gives the bytes of a list, and fails at the calls of a list.
 #[derive(Drop)]
 pub struct MemorySource {
+    /// All bytes that it gives.
     bytes: Vec<u8>,
+    /// How many of them it has given.
     at: usize,
+    /// Which of its calls fail.
     schedule: Schedule,
 }
 

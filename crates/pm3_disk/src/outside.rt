@@ -38,7 +38,8 @@ pub trait Disk {
     /// How many of its calls have failed, the faults of readers that it took back counted too.
     ghost faults: { Self → ℕ };
 
-    /// The present moment. It never falls, and the moments of a call are those after the one at its entry.
+    /// The present moment. It never falls, and the moments of a call are those after the one at its entry. A call has one at
+    /// most, so that a caller's clause can say how many calls it makes.
     ghost moment: { Self → ℕ };
 
     /// What bytes a crash at a moment may leave.
@@ -49,6 +50,7 @@ pub trait Disk {
         ensures len { IfOk result (λ len. IfTold (content self.old) (λ bytes. len ≡ length bytes)) }
         ensures same { content self.new ≡ content self.old }
         ensures crash { Passes (moment self.old) (moment self.new) (may_leave self.old) (may_leave self.new) (After (may_leave self.old (moment self.old)) Unchanged) }
+        ensures single { moment self.new ≤ moment self.old + 1 }
         ensures cause { HasCause (faults self.old) (faults self.new) result };
 
     /// Reads as many bytes as there are from offset `at` on, at most `out.len()`, into the front of `out`, and
@@ -58,6 +60,7 @@ pub trait Disk {
         ensures bytes { IfOk result (λ count. IfTold (content self.old) (λ bytes. IsRead bytes at count out.new)) }
         ensures same { content self.new ≡ content self.old }
         ensures crash { Passes (moment self.old) (moment self.new) (may_leave self.old) (may_leave self.new) (After (may_leave self.old (moment self.old)) Unchanged) }
+        ensures single { moment self.new ≤ moment self.old + 1 }
         ensures cause { HasCause (faults self.old) (faults self.new) result };
 
     /// Writes bytes from offset `at` on, over what is there and past the end. Until the next sync that succeeds
@@ -67,6 +70,7 @@ pub trait Disk {
         ensures written { OnOk result (content self.new ≡ option_map (overwrite at bytes.now) (content self.old)) }
         ensures torn { OnErr result (Steps (TornWrite at (length bytes.now)) (content self.old) (content self.new)) }
         ensures crash { Passes (moment self.old) (moment self.new) (may_leave self.old) (may_leave self.new) (After (may_leave self.old (moment self.old)) (TornWrite at (length bytes.now))) }
+        ensures single { moment self.new ≤ moment self.old + 1 }
         ensures cause { HasCause (faults self.old) (faults self.new) result };
 
     /// Leaves the first `len` bytes, or all where there are no more.
@@ -74,6 +78,7 @@ pub trait Disk {
         ensures cut { OnOk result (content self.new ≡ option_map (take len) (content self.old)) }
         ensures torn { OnErr result (Steps (TornCut len) (content self.old) (content self.new)) }
         ensures crash { Passes (moment self.old) (moment self.new) (may_leave self.old) (may_leave self.new) (After (may_leave self.old (moment self.old)) (TornCut len)) }
+        ensures single { moment self.new ≤ moment self.old + 1 }
         ensures cause { HasCause (faults self.old) (faults self.new) result };
 
     /// Makes what was written last: after it a crash leaves what a read gives.
@@ -81,6 +86,7 @@ pub trait Disk {
         ensures settled { OnOk result (IsSettled (content self.new) (may_leave self.new (moment self.new))) }
         ensures same { content self.new ≡ content self.old }
         ensures crash { Passes (moment self.old) (moment self.new) (may_leave self.old) (may_leave self.new) (After (may_leave self.old (moment self.old)) Unchanged) }
+        ensures single { moment self.new ≤ moment self.old + 1 }
         ensures cause { HasCause (faults self.old) (faults self.new) result };
 
     /// A reader of the bytes as they are now.
@@ -89,12 +95,14 @@ pub trait Disk {
         ensures fresh { IfOk result (λ reader. Self.Reader.faults reader ≡ 0) }
         ensures same { content self.new ≡ content self.old }
         ensures crash { Passes (moment self.old) (moment self.new) (may_leave self.old) (may_leave self.new) (After (may_leave self.old (moment self.old)) Unchanged) }
+        ensures single { moment self.new ≤ moment self.old + 1 }
         ensures cause { HasCause (faults self.old) (faults self.new) result };
 
     /// Takes a reader back, and counts its faults.
     fn absorb(&mut self, reader: Self::Reader)
         ensures same { content self.new ≡ content self.old }
         ensures crash { Passes (moment self.old) (moment self.new) (may_leave self.old) (may_leave self.new) (After (may_leave self.old (moment self.old)) Unchanged) }
+        ensures single { moment self.new ≤ moment self.old + 1 }
         ensures later { faults self.old ≤ faults self.new }
         ensures calm { Self.Reader.faults reader ≡ 0 → faults self.new ≡ faults self.old }
         ensures rose { 0 < Self.Reader.faults reader → Rose (faults self.old) (faults self.new) };

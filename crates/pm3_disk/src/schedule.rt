@@ -9,8 +9,11 @@ use std::marker::Model;
 /// Numbers the calls of a device, lets those fail whose numbers are in a list, and counts the faults.
 #[derive(Drop)]
 pub(crate) struct Schedule {
+    /// The numbers of the calls that fail.
     fails: Vec<u32>,
+    /// The number of the next call.
     next: u64,
+    /// How many calls have failed, or 2^64 - 1 where there are more.
     faults: u64,
 }
 

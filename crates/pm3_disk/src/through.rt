@@ -1,7 +1,7 @@
 //! Writes that a crash can't undo.
 ghost use Rattle.std.specs.Prelude.{◌≡◌, ◌≤◌, length, option_map, OnOk, OnErr};
 ghost use Rattle.pm3_disk.specs.Content.{IfTold, overwrite, TornWrite};
-ghost use Rattle.pm3_disk.specs.Devices.{IsHonest, IsSynced, Leaves, Takes};
+ghost use Rattle.pm3_disk.specs.Devices.{IsHonest, IsSynced, Leaves, MakesAtMost, Takes};
 
 use crate::outside::{Disk, Failed};
 
@@ -13,6 +13,7 @@ pub fn write_through<D: Disk>(disk: &mut D, at: u64, bytes: &[u8]) -> Result<(),
     ensures settled { OnOk result (IsSynced D.Disk disk.new) }
     ensures torn { OnErr result (Takes D.Disk disk.old disk.new (TornWrite at (length bytes.now))) }
     ensures crash { Leaves D.Disk disk.old disk.new (TornWrite at (length bytes.now)) }
+    ensures single { MakesAtMost D.Disk 2 disk.old disk.new }
     ensures cause { IsHonest D.Disk disk.old disk.new result }
 {
     match disk.write_at(at, bytes) {

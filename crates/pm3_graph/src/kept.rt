@@ -11,8 +11,11 @@ use std::marker::Model;
 /// A record as the plain heap keeps it.
 #[derive(Debug, Drop)]
 pub(crate) struct Kept {
+    /// The type.
     ty: TypeNo,
+    /// The words of the fields.
     fields: Vec<u64>,
+    /// The names or bytes of the tail, a word for each.
     tail: Vec<u64>,
 }
 

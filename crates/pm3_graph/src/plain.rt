@@ -14,7 +14,9 @@ use std::marker::Model;
 #[derive(Drop)]
 pub struct Plain {
     alloc: Global,
+    /// The records, by name.
     records: Records,
+    /// The names in the root slots.
     roots: [u64; 16],
 }
 

@@ -11,12 +11,12 @@ mod Picturing
 mod Recovering
 mod Restarting
 mod Scanning
-pub mod Appending
-pub mod Behind
+mod Appending
+mod Behind
 pub mod Emptying
 pub mod Examples
-pub mod Imaging
+mod Imaging
 pub mod Listing
-pub mod OneOpening
+mod OneOpening
 pub mod Pieces
 pub mod Rising

@@ -1,6 +1,6 @@
 //! A journal without records.
 ghost use Rattle.std.specs.Prelude.{◌≡◌, ◌≤◌, option_map, OnOk, OnErr};
-ghost use Rattle.pm3_disk.specs.Devices.{IsHonest, IsSynced, Takes};
+ghost use Rattle.pm3_disk.specs.Devices.{IsHonest, IsSynced, MakesAtMost, Takes};
 ghost use Rattle.pm3_journal.specs.FileHead.{empty_journal};
 
 use crate::faults::JournalFault;
@@ -15,6 +15,7 @@ pub fn create<D: Disk>(disk: &mut D, pages: u32) -> Result<(), JournalFault>
     ensures created { OnOk result (D.content disk.new ≡ option_map (λ _. empty_journal pages) (D.content disk.old)) }
     ensures settled { OnOk result (IsSynced D.Disk disk.new) }
     ensures told { OnErr result (Takes D.Disk disk.old disk.new (λ _ _. Unit {0})) }
+    ensures single { MakesAtMost D.Disk 3 disk.old disk.new }
     ensures cause { IsHonest D.Disk disk.old disk.new result }
 {
     disk.cut(0)?;

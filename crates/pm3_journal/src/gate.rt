@@ -1,7 +1,7 @@
 //! Bytes behind a gate, which is opened once they are on the disk.
 ghost use Rattle.std.specs.Prelude.{◌≡◌, ◌+◌, ◌^◌, ◌<◌, ◌≤◌, ◌∷◌, [], true, if◌then◌else◌, length, option_map, OnOk, OnErr};
 ghost use Rattle.pm3_disk.specs.Content.{IfTold, overwrite};
-ghost use Rattle.pm3_disk.specs.Devices.{IsHonest, IsSynced, LeavesFromTold, Takes};
+ghost use Rattle.pm3_disk.specs.Devices.{IsHonest, IsSynced, LeavesFromTold, MakesAtMost, Takes};
 ghost use Rattle.pm3_journal.specs.Gates.{AppendLeaves, Closes, ClosingLeaves, entered, EntryLeaves, IsClosed};
 
 use pm3_disk::{Disk, Failed, write_through};
@@ -18,6 +18,7 @@ pub(crate) fn close_gate<D: Disk>(disk: &mut D, at: u64, is_closed: bool) -> Res
     ensures settled { OnOk result (IsSynced D.Disk disk.new) }
     ensures torn { OnErr result (Takes D.Disk disk.old disk.new (ClosingLeaves at is_closed)) }
     ensures crash { LeavesFromTold D.Disk disk.old disk.new (ClosingLeaves at is_closed) }
+    ensures single { MakesAtMost D.Disk (if is_closed then 0 else 2) disk.old disk.new }
     ensures cause { IsHonest D.Disk disk.old disk.new result }
 {
     if is_closed {
@@ -37,6 +38,7 @@ pub(crate) fn enter<D: Disk>(disk: &mut D, at: u64, body: &[u8]) -> Result<(), F
     ensures settled { OnOk result (IsSynced D.Disk disk.new) }
     ensures torn { OnErr result (Takes D.Disk disk.old disk.new (EntryLeaves at body.now)) }
     ensures crash { LeavesFromTold D.Disk disk.old disk.new (EntryLeaves at body.now) }
+    ensures single { MakesAtMost D.Disk 4 disk.old disk.new }
     ensures cause { IsHonest D.Disk disk.old disk.new result }
 {
     write_through(disk, at + 1, body)?;
@@ -60,6 +62,7 @@ pub(crate) fn append_body<D: Disk>(
     ensures settled { OnOk result (IsSynced D.Disk disk.new) }
     ensures torn { OnErr result (Takes D.Disk disk.old disk.new (AppendLeaves at is_closed body.now)) }
     ensures crash { LeavesFromTold D.Disk disk.old disk.new (AppendLeaves at is_closed body.now) }
+    ensures single { MakesAtMost D.Disk (if is_closed then 4 else 6) disk.old disk.new }
     ensures cause { IsHonest D.Disk disk.old disk.new result }
 {
     // An open gate that a crash left, whose record isn't whole, is closed and synced before anything is written behind it.

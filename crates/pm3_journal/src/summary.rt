@@ -9,12 +9,17 @@ use std::marker::Model;
 /// A record but for its images.
 #[derive(Drop)]
 pub(crate) struct Summary {
+    /// The sequence number.
     pub(crate) seq: u64,
+    /// The next name and the high page after the commit.
     pub(crate) next_name: u64,
+    /// The tag that the transaction was begun with.
     pub(crate) tag: u32,
     pub(crate) high_page: u32,
+    /// How many pages were pinned, and how many objects moved.
     pub(crate) pins: u32,
     pub(crate) moved: u32,
+    /// The numbers of its pages, rising.
     pub(crate) pages: Vec<u32>,
 }
 

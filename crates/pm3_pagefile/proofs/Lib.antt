@@ -1,10 +1,10 @@
-pub mod Alone
-pub mod CatalogFields
-pub mod Growing
-pub mod HeadBytes
-pub mod HeadLast
-pub mod HeadStands
+mod Alone
+mod CatalogFields
+mod Growing
+mod HeadBytes
+mod HeadLast
+mod HeadStands
 pub mod OneHead
-pub mod Pieces
+mod Pieces
 pub mod Replacing
-pub mod Rising
+mod Rising

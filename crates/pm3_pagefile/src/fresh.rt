@@ -1,7 +1,7 @@
 //! The page file of a store without objects.
 ghost use Rattle.std.specs.Prelude.{◌≡◌, ◌+◌, ◌*◌, ◌-◌, ◌≤◌, [], ◌++◌, length, option_map, OnOk};
 ghost use Rattle.pm3_disk.specs.Content.{Anything, IfTold};
-ghost use Rattle.pm3_disk.specs.Devices.{IsHonest, IsSynced, Takes};
+ghost use Rattle.pm3_disk.specs.Devices.{IsHonest, IsSynced, MakesAtMost, Takes};
 ghost use Rattle.pm3_types.specs.PageOne.{zeros};
 ghost use Rattle.pm3_pagefile.specs.EmptyFile.{first_marks, page_file};
 
@@ -20,6 +20,7 @@ pub fn format<D: Disk>(disk: &mut D, pages: u32, catalog: &Catalog) -> Result<()
     ensures ok { OnOk result (D.content disk.new ≡ option_map (λ _. page_file pages catalog.now) (D.content disk.old)) }
     ensures settled { OnOk result (IsSynced D.Disk disk.new) }
     ensures told { Takes D.Disk disk.old disk.new Anything }
+    ensures single { MakesAtMost D.Disk (pages + 2) disk.old disk.new }
     ensures cause { IsHonest D.Disk disk.old disk.new result }
 {
     let mut catalog_page = [0; PAGE_SIZE];
@@ -53,6 +54,7 @@ fn empty<D: Disk>(disk: &mut D) -> Result<(), Failed>
     ensures ok { OnOk result (D.content disk.new ≡ option_map (λ _. []) (D.content disk.old)) }
     ensures len { OnOk result (IfTold (D.content disk.new) (λ bytes. length bytes ≡ 0)) }
     ensures told { Takes D.Disk disk.old disk.new Anything }
+    ensures single { MakesAtMost D.Disk 1 disk.old disk.new }
     ensures cause { IsHonest D.Disk disk.old disk.new result }
 {
     disk.cut(0)
@@ -64,6 +66,7 @@ fn append<D: Disk>(disk: &mut D, count: u32, page: &[u8; PAGE_SIZE]) -> Result<(
     ensures ok { OnOk result (D.content disk.new ≡ option_map (λ bytes. bytes ++ page.now) (D.content disk.old)) }
     ensures len { OnOk result (IfTold (D.content disk.new) (λ bytes. length bytes ≡ 4096 * (count + 1))) }
     ensures told { Takes D.Disk disk.old disk.new Anything }
+    ensures single { MakesAtMost D.Disk 1 disk.old disk.new }
     ensures cause { IsHonest D.Disk disk.old disk.new result }
 {
     disk.write_at(u64::from(count) * 4096, page)
@@ -75,6 +78,7 @@ fn append_free<D: Disk>(disk: &mut D, pages: u32) -> Result<(), Failed>
     requires three { IfTold (D.content disk.old) (λ bytes. length bytes ≡ 4096 * 3) }
     ensures ok { OnOk result (D.content disk.new ≡ option_map (λ bytes. bytes ++ zeros (4096 * (pages - 3))) (D.content disk.old)) }
     ensures told { Takes D.Disk disk.old disk.new Anything }
+    ensures single { MakesAtMost D.Disk (pages - 3) disk.old disk.new }
     ensures cause { IsHonest D.Disk disk.old disk.new result }
 {
     let free = [0; PAGE_SIZE];

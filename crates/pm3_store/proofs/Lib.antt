@@ -1,10 +1,10 @@
-pub mod Within
-pub mod Carrying
+mod Within
+mod Carrying
 pub mod Moving
-pub mod Recording
-pub mod Crashing
-pub mod Roots
-pub mod Imagined
-pub mod Fresh
-pub mod Pictures
-pub mod Opening
+mod Recording
+mod Crashing
+mod Roots
+mod Imagined
+mod Fresh
+mod Pictures
+mod Opening

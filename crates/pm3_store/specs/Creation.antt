@@ -14,6 +14,10 @@ pub record Files (D : Type 0) : Type 0 where
   pub pages : D
   pub journal : D
 
+-- such files, of a page file and a journal
+abbrev pub files : {D : Type 0} → D → D → Files D
+files pages journal = record { pages = pages; journal = journal }
+
 module _ {D R : Type 0} (g : Ghosts D R) where
   -- they hold a store of so many pages, and no object
   abbrev pub AreCreated : ℕ → List Fields → Files D → Files D → Type 0
@@ -52,6 +56,6 @@ module _ {D R : Type 0} (g : Ghosts D R) where
     pub journal : g.faults old.journal ≤ g.faults new.journal
 
   -- a crash leaves both as they read
-  pub record AreSynced (files : Files D) : Type 0 where
-    pub pages : IsSynced g files.pages
-    pub journal : IsSynced g files.journal
+  pub record AreSynced (s : Files D) : Type 0 where
+    pub pages : IsSynced g s.pages
+    pub journal : IsSynced g s.journal

@@ -6,7 +6,7 @@ use Rattle.pm3_disk.specs.declared.outside.Disk.{Ghosts}
 use Rattle.pm3_types.specs.Graph.{Part}
 use Rattle.pm3_journal.specs.Opening.{OpenTo}
 use Rattle.pm3_journal.specs.declared.opened.Opened.{Opened}
-use Rattle.pm3_store.specs.Creation.{Files}
+use Rattle.pm3_store.specs.Creation.{Files, files}
 
 -- each of these page files with each of these journals opens to the graph
 abbrev pub EachOpens : ℕ → (List ℕ → Type 0) → (List ℕ → Type 0) → Part → Type 0
@@ -14,7 +14,7 @@ EachOpens base files journals graph = (file journal : List ℕ) → files file �
 
 -- the two files of an open store
 abbrev pub files_of : {D R : Type 0} → Opened D R → Files D
-files_of s = record { pages = s.pages; journal = s.journal.disk }
+files_of s = files s.pages s.journal.disk
 
 module _ {D R : Type 0} (g : Ghosts D R) where
   -- the bytes that the two files tell open to the graph

@@ -89,6 +89,7 @@ pub fn checkpoint<D: Disk>(alloc: Global, opened: &mut Opened<D>) -> Result<(), 
         Err(WriteFault::PageFault) => return Err(CheckpointFault::PageFault),
         Err(WriteFault::Memory) => return Err(CheckpointFault::Memory),
     }
+    // Only now, with the page file synced: until then the records are all that mends what a crash tears of it.
     match opened.journal.close_first_gate() {
         Ok(()) => Ok(()),
         Err(JournalFault) => Err(CheckpointFault::JournalFault),

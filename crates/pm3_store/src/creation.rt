@@ -1,10 +1,11 @@
 //! A new store: its journal and its page file.
-ghost use Rattle.std.specs.Prelude.{◌≤◌, OnOk};
+ghost use Rattle.std.specs.Prelude.{◌≤◌, ◌+◌, OnOk};
 ghost use Rattle.pm3_core.specs.declared.naming.TheConstants.{BASE};
 ghost use Rattle.pm3_disk.specs.Content.{IfTold};
+ghost use Rattle.pm3_disk.specs.Devices.{MakesAtMost};
 ghost use Rattle.pm3_types.specs.PageLaws.{IsCatalog};
 ghost use Rattle.pm3_journal.specs.Opening.{OpenTo};
-ghost use Rattle.pm3_store.specs.Creation.{AreOnward, AreSynced, CreationEnds};
+ghost use Rattle.pm3_store.specs.Creation.{AreOnward, AreSynced, CreationEnds, files};
 ghost use Rattle.pm3_store.specs.NewStore.{empty_graph};
 
 use pm3_disk::Disk;
@@ -35,9 +36,10 @@ pub fn create<D: Disk>(
 ) -> Result<(), CreateFault>
     requires few { 16 ≤ count }
     requires most { count ≤ 16384 }
-    ensures ends { CreationEnds D.Disk count catalog.now (record { pages = pages.old; journal = journal.old }) (record { pages = pages.new; journal = journal.new }) result }
-    ensures onward { AreOnward D.Disk (record { pages = pages.old; journal = journal.old }) (record { pages = pages.new; journal = journal.new }) }
-    ensures synced { OnOk result (AreSynced D.Disk (record { pages = pages.new; journal = journal.new })) }
+    ensures ends { CreationEnds D.Disk count catalog.now (files pages.old journal.old) (files pages.new journal.new) result }
+    ensures onward { AreOnward D.Disk (files pages.old journal.old) (files pages.new journal.new) }
+    ensures synced { OnOk result (AreSynced D.Disk (files pages.new journal.new)) }
+    ensures single { MakesAtMost D.Disk (count + 3) pages.old pages.new × MakesAtMost D.Disk 3 journal.old journal.new }
     ensures opens { OnOk result (IsCatalog catalog.now → IfTold (D.content pages.new) (λ file. IfTold (D.content journal.new) (λ bytes.
         OpenTo BASE file bytes empty_graph))) }
 {

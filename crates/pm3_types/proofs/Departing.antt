@@ -1,16 +1,16 @@
 -- Where a page departs from the form of a catalog, and that nothing behind that place can mend it.
-use Rattle.std.proofs.Common.{◌≡◌, ◌≢◌, ◌⊎◌, inl, inr, ⊎_elim, ℕ, zero, suc, ◌+◌, ◌-◌, ◌*◌, ◌%◌, ◌<◌, ◌≤◌, ◌∙◌, Bool, true, false, List, length, take, drop, get_or, nat_le, nat_lt, Option, None, Some, refl, arith, sym, ap, ◌++◌, length-append, take-take, take_all, get_or-take}
+use Rattle.std.proofs.Common.{◌≡◌, ◌⊎◌, inl, inr, ⊎_elim, ℕ, zero, suc, ◌+◌, ◌-◌, ◌*◌, ◌%◌, ◌<◌, ◌≤◌, ◌∙◌, Bool, true, false, List, length, take, drop, get_or, nat_le, nat_lt, Option, None, Some, refl, arith, sym, ap, ◌++◌, length-append, take-take, take_all, get_or-take}
 use Rattle.std.proofs.lemmas.List.{drop-take, length-replicate}
 use Rattle.std.proofs.lemmas.Bool.{cases_lt, cond-true, cond-false}
 use Rattle.std.proofs.lemmas.Bool.Decides.{nat_tests}
-use Rattle.std.specs.Prelude.{◌^◌, ◌==◌, ◌&&◌, slice_index, if◌then◌else◌}
+use Rattle.std.specs.Prelude.{◌^◌, ◌==◌, ◌&&◌, slice_index}
 use Rattle.std.specs.Int.{w32}
 use Rattle.std.specs.Option.{option_or}
 use Rattle.pm3_types.specs.Fields.{Fields}
 use Rattle.pm3_types.specs.Bytes.{is_zero, number_at, unless}
 use Rattle.pm3_types.specs.PageOne.{catalog_page, catalog_head, maps_bytes, padded, zeros}
 use Rattle.pm3_types.specs.CatalogForm.{departure, head_departure, map_departure, maps_departure}
-use Rattle.pm3_types.specs.PageLaws.{IsCatalog, DepartureStands, behind_field, behind_type_field}
+use Rattle.pm3_types.specs.PageLaws.{DepartureStands, behind_field, behind_type_field}
 use Rattle.pm3_types.proofs.Padding.{length-maps_bytes}
 use Rattle.pm3_types.proofs.OnePage.{page_has_form}
 

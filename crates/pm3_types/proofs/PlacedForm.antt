@@ -1,5 +1,5 @@
 -- A new object behind the last one leaves the form of the page.
-use Rattle.std.proofs.Common.{◌≡◌, ◌≢◌, ◌⊎◌, ◌<◌, ◌≤◌, ◌+◌, ◌-◌, ◌*◌, ◌/◌, ◌%◌, ◌^◌, ◌&&◌, ◌||◌, ◌++◌, ◌∙◌, inl, inr, ℕ, zero, suc, Bool, true, false, eqb, leb, List, length, get_or, set, take, drop, replicate, Some, slice_get, refl, sym, ap, subst, arith, length-set, length-append, length-drop, length-take-le, get_or-set_other, get_or-set_same, get_or-take}
+use Rattle.std.proofs.Common.{◌≡◌, ◌≢◌, ◌⊎◌, ◌<◌, ◌≤◌, ◌+◌, ◌-◌, ◌*◌, ◌/◌, ◌%◌, ◌^◌, ◌||◌, ◌++◌, ◌∙◌, inl, inr, ℕ, zero, suc, Bool, true, false, eqb, leb, List, length, get_or, set, take, drop, replicate, Some, slice_get, refl, sym, ap, subst, arith, length-set, length-append, length-drop, length-take-le, get_or-set_other, get_or-set_same, get_or-take}
 use Rattle.std.proofs.lemmas.Bool.{cases_eq, and_from, cond-false, ne_eqb, eq-eqb, lt-ltb, le-leb, false≢true}
 use Rattle.std.proofs.lemmas.List.{length-replicate, get_or_append_left, get_or-append_right}
 use Rattle.std.proofs.Math.Nat.{zero-div}

@@ -13,6 +13,10 @@ pub record Fields : Type 0 where
 abbrev pub IsTypeMap : ℕ → ℕ → Type 0
 IsTypeMap count refs = (count ≤ 32) × (refs < 2 ^ count)
 
+-- a type without a place
+abbrev pub no_places : Fields
+no_places = record { count = 0; refs = 0; tail = Empty }
+
 -- bit f of the mask is set: field f is a reference
 unfoldable pub is_reference : Fields → ℕ → Bool
 is_reference map f = map.refs / 2 ^ f % 2 == 1

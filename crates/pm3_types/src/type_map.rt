@@ -71,6 +71,10 @@ impl Model for TypeMap {
 }
 
 impl Default for TypeMap {
+    ghost use Rattle.pm3_types.specs.Fields.{no_places};
+
+    ghost is_default = { λ map. map ≡ no_places };
+
     /// The map of a type without places.
     fn default() -> TypeMap {
         TypeMap {

@@ -10,6 +10,7 @@ use crate::events::{Memory, PLACES, ROW_PLACES, ROWS, Stepped};
 use crate::naming::page_of;
 
 impl Core {
+    /// A word is stored. Its place does not stand until it is validated.
     pub(super) fn store(&mut self, who: u32, place: u32, word: u64) -> Stepped
         ensures answer { Answers self.old (Store who place word) result self.new }
         ensures pages { self.new.pages ≡ self.old.pages }
@@ -22,6 +23,7 @@ impl Core {
         Stepped::Done
     }
 
+    /// The page that a word names is looked up. The place stands where it has no mark.
     pub(super) fn validate(&mut self, who: u32, place: u32) -> Stepped
         ensures answer { Answers self.old (Validate who place) result self.new }
         ensures pages { self.new.pages ≡ self.old.pages }
@@ -37,6 +39,7 @@ impl Core {
         Stepped::Done
     }
 
+    /// A place is set to 0.
     pub(super) fn clear(&mut self, who: u32, place: u32) -> Stepped
         ensures answer { Answers self.old (Clear who place) result self.new }
         ensures pages { self.new.pages ≡ self.old.pages }
@@ -44,6 +47,7 @@ impl Core {
         self.store(who, place, 0)
     }
 
+    /// A page gets a mark, and no place is read off for it yet.
     pub(super) fn mark(&mut self, who: u32, page: u32) -> Result<Stepped, Memory>
         ensures answer { IfOk result (λ answer. Answers self.old (Mark who page) answer self.new) }
         ensures pages { self.new.pages ≡ self.old.pages }
@@ -62,6 +66,7 @@ impl Core {
         Ok(Stepped::Done)
     }
 
+    /// A place is read: it is read off for the pages that its reader marks, but for the one that its word names.
     pub(super) fn read(&mut self, who: u32, row: u32, place: u32) -> Stepped
         ensures answer { Answers self.old (Read who row place) result self.new }
         ensures pages { self.new.pages ≡ self.old.pages }
@@ -77,6 +82,7 @@ impl Core {
         Stepped::Done
     }
 
+    /// A page is moved from, which is a step once all places are read off for it.
     pub(super) fn move_page(&mut self, who: u32, page: u32) -> Stepped
         ensures answer { Answers self.old (Move who page) result self.new }
         ensures pages { self.new.pages ≡ self.old.pages }
@@ -88,6 +94,7 @@ impl Core {
         }
     }
 
+    /// A mark is taken off.
     pub(super) fn unmark(&mut self, who: u32, page: u32) -> Stepped
         ensures answer { Answers self.old (Unmark who page) result self.new }
         ensures pages { self.new.pages ≡ self.old.pages }

@@ -1,6 +1,6 @@
 //! A record more.
-ghost use Rattle.std.specs.Prelude.{◌≡◌, ◌+◌, ◌^◌, ◌<◌, ◌≤◌, ◌↔◌, ◌⊎◌, ℕ, length, option_map, Some, None, IfOk, OnOk, OnErr, IsErrOf};
-ghost use Rattle.pm3_disk.specs.Devices.{HasFailed, HasNotFailed, IsSynced, LeavesFromTold, Takes};
+ghost use Rattle.std.specs.Prelude.{◌≡◌, ◌+◌, ◌^◌, ◌<◌, ◌≤◌, ◌↔◌, ◌⊎◌, if◌then◌else◌, ℕ, length, option_map, Some, None, IfOk, OnOk, OnErr, IsErrOf};
+ghost use Rattle.pm3_disk.specs.Devices.{HasFailed, HasNotFailed, IsSynced, LeavesFromTold, MakesAtMost, Takes};
 ghost use Rattle.pm3_journal.specs.Entered.{record_of};
 ghost use Rattle.pm3_journal.specs.Format.{appended_bytes, IsFit, record_size};
 ghost use Rattle.pm3_journal.specs.Gates.{AppendLeaves, entered};
@@ -57,6 +57,7 @@ impl<D: Disk> Journal<D> {
         ensures added { OnOk result (Takes D.Disk self.old.disk self.new.disk (HasOneMore (record_of self.old.next entry.now))) }
         ensures settled { OnOk result (IsSynced D.Disk self.new.disk) }
         ensures crash { LeavesFromTold D.Disk self.old.disk self.new.disk (HasMaybeOneMore (record_of self.old.next entry.now)) }
+        ensures single { MakesAtMost D.Disk (if self.old.is_closed then 4 else 6) self.old.disk self.new.disk }
         ensures stopped { (seq : ℕ) → IsErrOf result (AppendFault.Stopped seq) ↔ (self.old.stopped ≡ Some seq) }
         ensures full { (limit : ℕ) → IsErrOf result (AppendFault.Full limit)
             ↔ ((self.old.stopped ≡ None) × (limit ≡ 2 ^ 30)

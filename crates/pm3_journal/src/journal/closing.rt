@@ -1,7 +1,7 @@
 //! The end of a journal's records, once they are elsewhere.
 ghost use Rattle.std.specs.Prelude.{◌≡◌, ◌<◌, ◌≤◌, ◌∷◌, false, [], length, option_map, OnOk, OnErr};
 ghost use Rattle.pm3_disk.specs.Content.{IfTold, overwrite, TornWrite};
-ghost use Rattle.pm3_disk.specs.Devices.{IsHonest, IsSynced, Leaves, LeavesOnly, Takes};
+ghost use Rattle.pm3_disk.specs.Devices.{IsHonest, IsSynced, Leaves, LeavesOnly, MakesAtMost, Takes};
 ghost use Rattle.pm3_disk.specs.Moments.{After};
 ghost use Rattle.pm3_journal.specs.JournalState.{emptied, torn};
 ghost use Rattle.pm3_journal.specs.Steps.{HasAllOrNone, HasNone};
@@ -27,6 +27,7 @@ impl<D: Disk> Journal<D> {
         ensures crash_write { Leaves D.Disk self.old.disk self.new.disk (TornWrite 32 1) }
         ensures crash { self.old.is_torn ≡ false → LeavesOnly D.Disk self.old.disk self.new.disk
             (λ left. IfTold (D.content self.old.disk) (λ _. After (D.may_leave self.old.disk (D.moment self.old.disk)) HasAllOrNone left)) }
+        ensures single { MakesAtMost D.Disk 2 self.old.disk self.new.disk }
         ensures cause { IsHonest D.Disk self.old.disk self.new.disk result }
     {
         // Synced before the answer: the store's next records are written over these, and its page file stands alone.
