@@ -1,4 +1,4 @@
-pub mod Numbers
-pub mod Pieces
-pub mod Reasons
-pub mod Openings
+mod Numbers
+mod Pieces
+mod Reasons
+mod Openings

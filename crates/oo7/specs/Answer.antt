@@ -4,12 +4,14 @@ use Rattle.pm3_disk.specs.Devices.{HasFailed, IsKept, WasEmpty}
 use Rattle.pm3_disk.specs.declared.outside.Disk as disk
 use Rattle.pm3_disk.specs.declared.outside.Sink as sink
 use Rattle.oo7_schema.specs.Schema.{schema}
-use Rattle.pm3_store.specs.Creation.{Files, AreCreated, AreOnward, AreSynced, HasStore, JournalHasFailed, NoneHasFailed, PagesHaveFailed}
+use Rattle.pm3_store.specs.Creation.{Files, files, AreCreated, AreOnward, AreSynced, HasStore, JournalHasFailed, NoneHasFailed, PagesHaveFailed}
 use Rattle.pm3_store.specs.Standing.{AreRead}
 use Rattle.oo7.specs.Checkpoints.{CheckpointEnds, StandThroughout}
 use Rattle.oo7.specs.Dumps.{DumpEnds}
 use Rattle.oo7.specs.Output.{Delivers, Outcome, status_of, printed_of}
+use Rattle.oo7.specs.Words.{command_of}
 use Rattle.oo7.specs.declared.refusal.Refusal.TheVariants.{Usage, PageFault, JournalFault, PageDamaged, JournalDamaged, Memory, Exists, Later}
+use Rattle.oo7.specs.declared.top.Done.{Done}
 use Rattle.oo7.specs.declared.words.Command.{Command}
 use Rattle.oo7.specs.declared.words.Command.TheVariants.{Create, Checkpoint, Dump, NotYet}
 
@@ -19,6 +21,14 @@ pub record Call (D : Type 0) : Type 0 where
   pub before : Files D
   pub after : Files D
   pub status : ℕ
+
+-- the call with these words on a page file and a journal, which left two files with a status
+abbrev pub call_of : {D : Type 0} → List (List ℕ) → Files D → Files D → ℕ → Call D
+call_of words before after status = record { command = command_of words; before = before; after = after; status = status }
+
+-- the call that ended so
+abbrev pub called : {D : Type 0} → List (List ℕ) → D → D → Done D → Call D
+called words pages journal done = call_of words (files pages journal) (files done.pages done.journal) done.status
 
 module _ {D R : Type 0} (g : disk.Ghosts D R) where
   -- how the making of a store of so many pages ends

@@ -17,6 +17,7 @@ module _ {D R : Type 0} (g : Ghosts D R) where
     pub emptied : IfTold (g.content new.journal) (λ bytes. records bytes ≡ Whole [])
     pub synced : AreSynced g new
 
+  -- done, or refused with its cause
   abbrev pub CheckpointEnds : Files D → Files D → Outcome → Type 0
   CheckpointEnds old new (Ok output) = (output ≡ None) × IsCarried old new
   CheckpointEnds old new (Err refusal) = IsRefused g old new refusal

@@ -40,6 +40,7 @@ module _ {D R : Type 0} (g : Ghosts D R) where
     pub honest : NoneHasFailed g old new
     pub text_is : (graph : Part) → AreOpenTo g old graph → text ≡ dump schema graph
 
+  -- done, refused with its cause, or refused at the page that is damaged
   abbrev pub DumpEnds : Files D → Files D → Outcome → Type 0
   DumpEnds old new (Ok output) = (text : List ℕ) × (output ≡ Some text) × IsDumped old new text
   DumpEnds old new (Err refusal) = IsRefused g old new refusal ⊎ IsDamaged old new refusal

@@ -1,7 +1,7 @@
 //! The command `checkpoint`.
 ghost use Rattle.std.specs.Prelude.{◌≡◌, ◌⊎◌, None, OnOk};
 ghost use Rattle.oo7.specs.Checkpoints.{CheckpointEnds, StandThroughout};
-ghost use Rattle.pm3_store.specs.Creation.{AreOnward, AreSynced};
+ghost use Rattle.pm3_store.specs.Creation.{AreOnward, AreSynced, files};
 ghost use Rattle.pm3_store.specs.Standing.{AreRead, JournalStands, PagesStand, Stands, files_of};
 ghost use Rattle.pm3_journal.specs.Opened.{IsOpenStore};
 ghost use Rattle.pm3_types.specs.Graph.{Part};
@@ -17,11 +17,11 @@ use std::alloc::Global;
 
 /// Opens a store and carries the records of its journal into the page file.
 pub(crate) fn checkpoint<D: Disk>(alloc: Global, pages: D, journal: D) -> Performed<D>
-    ensures reason { CheckpointEnds D.Disk (record { pages = pages; journal = journal }) (record { pages = result.pages; journal = result.journal }) result.outcome }
-    ensures onward { AreOnward D.Disk (record { pages = pages; journal = journal }) (record { pages = result.pages; journal = result.journal }) }
-    ensures synced { OnOk result.outcome (AreSynced D.Disk (record { pages = result.pages; journal = result.journal })) }
-    ensures stops { AreRead D.Disk (record { pages = pages; journal = journal }) (record { pages = result.pages; journal = result.journal })
-        ⊎ StandThroughout D.Disk (record { pages = pages; journal = journal }) (record { pages = result.pages; journal = result.journal }) }
+    ensures reason { CheckpointEnds D.Disk (files pages journal) (files result.pages result.journal) result.outcome }
+    ensures onward { AreOnward D.Disk (files pages journal) (files result.pages result.journal) }
+    ensures synced { OnOk result.outcome (AreSynced D.Disk (files result.pages result.journal)) }
+    ensures stops { AreRead D.Disk (files pages journal) (files result.pages result.journal)
+        ⊎ StandThroughout D.Disk (files pages journal) (files result.pages result.journal) }
 {
     let mut opened = match open_store(alloc, pages, journal) {
         Ok(opened) => opened,

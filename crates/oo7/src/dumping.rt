@@ -3,7 +3,7 @@ ghost use Rattle.std.specs.Prelude.{◌≡◌, None, OnOk, slice_index_or};
 ghost use Rattle.oo7.specs.Dumps.{DumpEnds, refusal_at};
 ghost use Rattle.oo7_schema.specs.Schema.{schema};
 ghost use Rattle.pm3_journal.specs.Opened.{IsOpenStore};
-ghost use Rattle.pm3_store.specs.Creation.{AreOnward, AreSynced};
+ghost use Rattle.pm3_store.specs.Creation.{AreOnward, AreSynced, files};
 ghost use Rattle.pm3_store.specs.Standing.{AreRead, files_of};
 
 use crate::opening::open_store;
@@ -16,9 +16,9 @@ use std::alloc::Global;
 
 /// Opens a store and prints what its roots reach.
 pub(crate) fn dump<D: Disk>(alloc: Global, pages: D, journal: D) -> Performed<D>
-    ensures reason { DumpEnds D.Disk (record { pages = pages; journal = journal }) (record { pages = result.pages; journal = result.journal }) result.outcome }
-    ensures read { AreRead D.Disk (record { pages = pages; journal = journal }) (record { pages = result.pages; journal = result.journal }) }
-    ensures synced { OnOk result.outcome (AreSynced D.Disk (record { pages = result.pages; journal = result.journal })) }
+    ensures reason { DumpEnds D.Disk (files pages journal) (files result.pages result.journal) result.outcome }
+    ensures read { AreRead D.Disk (files pages journal) (files result.pages result.journal) }
+    ensures synced { OnOk result.outcome (AreSynced D.Disk (files result.pages result.journal)) }
 {
     let mut opened = match open_store(alloc, pages, journal) {
         Ok(opened) => opened,

@@ -3,7 +3,7 @@ ghost use Rattle.std.specs.Prelude.{◌≡◌, ℕ, ◌+◌, ◌<◌, ◌≤◌,
 ghost use Rattle.oo7.specs.Opening.{IsFirstDifference, IsRefused, refusal_by};
 ghost use Rattle.oo7_schema.specs.Schema.{schema};
 ghost use Rattle.pm3_journal.specs.Opened.{IsOpenStore};
-ghost use Rattle.pm3_store.specs.Creation.{AreSynced, NoneHasFailed};
+ghost use Rattle.pm3_store.specs.Creation.{AreSynced, files, NoneHasFailed};
 ghost use Rattle.pm3_store.specs.Standing.{AreRead, files_of};
 ghost use Rattle.pm3_types.specs.PageOne.{catalog_page};
 
@@ -31,12 +31,12 @@ pub(crate) fn open_store<D: Disk>(
 ) -> Result<Opened<D>, Refused<D>>
     ensures open { IfOk result (λ opened. IsOpenStore D.Disk opened) }
     ensures runs { IfOk result (λ opened. opened.journal.stopped ≡ None) }
-    ensures read { IfOk result (λ opened. AreRead D.Disk (record { pages = pages; journal = journal }) (files_of opened)) }
+    ensures read { IfOk result (λ opened. AreRead D.Disk (files pages journal) (files_of opened)) }
     ensures synced { IfOk result (λ opened. AreSynced D.Disk (files_of opened)) }
-    ensures honest { IfOk result (λ opened. NoneHasFailed D.Disk (record { pages = pages; journal = journal }) (files_of opened)) }
+    ensures honest { IfOk result (λ opened. NoneHasFailed D.Disk (files pages journal) (files_of opened)) }
     ensures catalog { IfOk result (λ opened. opened.catalog ≡ schema) }
-    ensures back { IfErr result (λ refused. AreRead D.Disk (record { pages = pages; journal = journal }) (record { pages = refused.pages; journal = refused.journal })) }
-    ensures cause { IfErr result (λ refused. IsRefused D.Disk (record { pages = pages; journal = journal }) (record { pages = refused.pages; journal = refused.journal }) refused.refusal) }
+    ensures back { IfErr result (λ refused. AreRead D.Disk (files pages journal) (files refused.pages refused.journal)) }
+    ensures cause { IfErr result (λ refused. IsRefused D.Disk (files pages journal) (files refused.pages refused.journal) refused.refusal) }
 {
     let Ok(catalog) = oo7_schema::catalog(alloc) else {
         unreachable!()

@@ -1,8 +1,8 @@
 //! What the program works on: its arguments, the two files of a store, and two streams.
 ghost use Rattle.std.specs.Prelude.{◌≡◌, ◌↔◌, drop, None, Some};
 ghost use Rattle.std.specs.Process.{exit_status};
-ghost use Rattle.oo7.specs.Answer.{Answers};
-ghost use Rattle.pm3_store.specs.Creation.{Files};
+ghost use Rattle.oo7.specs.Answer.{Answers, call_of};
+ghost use Rattle.pm3_store.specs.Creation.{Files, files};
 ghost use Rattle.oo7.specs.Words.{command_of, texts};
 
 use crate::gate::Gate;
@@ -31,7 +31,8 @@ where
     pub fn end<R: Threads + Sync, G: Gate>(self, rt: &R, alloc: Global, gate: &G) -> ExitCode
         ensures usage { (exit_status result ≡ 2) ↔ (command_of (texts (drop 1 self.arguments.items)) ≡ None) }
         ensures later { (exit_status result ≡ 14) ↔ (command_of (texts (drop 1 self.arguments.items)) ≡ Some Command.NotYet) }
-        ensures answer { (after : Files D) × (sink : K) × Answers D.Disk K.Sink (record { command = command_of (texts (drop 1 self.arguments.items)); before = record { pages = self.pages; journal = self.journal }; after = after; status = exit_status result }) self.sink sink }
+        ensures answer { (after : Files D) × (sink : K)
+            × Answers D.Disk K.Sink (call_of (texts (drop 1 self.arguments.items)) (files self.pages self.journal) after (exit_status result)) self.sink sink }
     {
         let Outside {
             arguments,

@@ -3,7 +3,7 @@ ghost use Rattle.std.specs.Prelude.{◌≡◌, ◌⊎◌, ◌≤◌, Some, Err, 
 ghost use Rattle.oo7.specs.Answer.{CreateEnds, HasReason};
 ghost use Rattle.oo7.specs.Checkpoints.{StandThroughout};
 ghost use Rattle.oo7.specs.Words.{command_of, texts};
-ghost use Rattle.pm3_store.specs.Creation.{AreOnward, AreSynced};
+ghost use Rattle.pm3_store.specs.Creation.{AreOnward, AreSynced, files};
 ghost use Rattle.pm3_store.specs.Standing.{AreRead};
 
 use crate::checkpointing::checkpoint;
@@ -65,14 +65,14 @@ pub(crate) fn perform<D: Disk>(
     pages: D,
     journal: D,
 ) -> Performed<D>
-    ensures reason { HasReason D.Disk (command_of (texts words.now)) (record { pages = pages; journal = journal }) (record { pages = result.pages; journal = result.journal }) result.outcome }
-    ensures onward { AreOnward D.Disk (record { pages = pages; journal = journal }) (record { pages = result.pages; journal = result.journal }) }
-    ensures synced { OnOk result.outcome (AreSynced D.Disk (record { pages = result.pages; journal = result.journal })) }
+    ensures reason { HasReason D.Disk (command_of (texts words.now)) (files pages journal) (files result.pages result.journal) result.outcome }
+    ensures onward { AreOnward D.Disk (files pages journal) (files result.pages result.journal) }
+    ensures synced { OnOk result.outcome (AreSynced D.Disk (files result.pages result.journal)) }
     ensures reads { command_of (texts words.now) ≡ Some Command.Dump
-        → AreRead D.Disk (record { pages = pages; journal = journal }) (record { pages = result.pages; journal = result.journal }) }
+        → AreRead D.Disk (files pages journal) (files result.pages result.journal) }
     ensures stops { command_of (texts words.now) ≡ Some Command.Checkpoint
-        → AreRead D.Disk (record { pages = pages; journal = journal }) (record { pages = result.pages; journal = result.journal })
-        ⊎ StandThroughout D.Disk (record { pages = pages; journal = journal }) (record { pages = result.pages; journal = result.journal }) }
+        → AreRead D.Disk (files pages journal) (files result.pages result.journal)
+        ⊎ StandThroughout D.Disk (files pages journal) (files result.pages result.journal) }
 {
     match read_command(words) {
         Some(Command::Create(count)) => create(alloc, pages, journal, count),
@@ -95,9 +95,9 @@ pub(crate) fn perform<D: Disk>(
 fn create<D: Disk>(alloc: Global, mut pages: D, mut journal: D, count: u32) -> Performed<D>
     requires few { 16 ≤ count }
     requires most { count ≤ 16384 }
-    ensures reason { CreateEnds D.Disk count (record { pages = pages; journal = journal }) (record { pages = result.pages; journal = result.journal }) result.outcome }
-    ensures onward { AreOnward D.Disk (record { pages = pages; journal = journal }) (record { pages = result.pages; journal = result.journal }) }
-    ensures synced { OnOk result.outcome (AreSynced D.Disk (record { pages = result.pages; journal = result.journal })) }
+    ensures reason { CreateEnds D.Disk count (files pages journal) (files result.pages result.journal) result.outcome }
+    ensures onward { AreOnward D.Disk (files pages journal) (files result.pages result.journal) }
+    ensures synced { OnOk result.outcome (AreSynced D.Disk (files result.pages result.journal)) }
 {
     let Ok(catalog) = oo7_schema::catalog(alloc) else {
         unreachable!()

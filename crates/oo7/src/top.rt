@@ -1,6 +1,6 @@
 //! The call that the program makes.
 ghost use Rattle.std.specs.Prelude.{◌≡◌, ◌↔◌, None, Some};
-ghost use Rattle.oo7.specs.Answer.{Answers, Completes, Makes, Reads, Spares, Stops};
+ghost use Rattle.oo7.specs.Answer.{Answers, called, Completes, Makes, Reads, Spares, Stops};
 ghost use Rattle.oo7.specs.Words.{command_of, texts};
 
 use crate::gate::Gate;
@@ -33,15 +33,15 @@ pub fn oo7<R: Threads + Sync, D: Disk + Send, S: Source, K: Sink, G: Gate>(
 ) -> Done<D>
 where
     D::Reader: Send,
-    ensures answer { Answers D.Disk K.Sink (record { command = command_of (texts words.now); before = record { pages = pages; journal = journal }; after = record { pages = result.pages; journal = result.journal }; status = result.status }) sink.old sink.new }
+    ensures answer { Answers D.Disk K.Sink (called (texts words.now) pages journal result) sink.old sink.new }
     ensures usage { (result.status ≡ 2) ↔ (command_of (texts words.now) ≡ None) }
     ensures later { (result.status ≡ 14) ↔ (command_of (texts words.now) ≡ Some Command.NotYet) }
     ensures unread { source.new ≡ source.old }
-    ensures completes { Completes D.Disk (record { command = command_of (texts words.now); before = record { pages = pages; journal = journal }; after = record { pages = result.pages; journal = result.journal }; status = result.status }) }
-    ensures spares { Spares D.Disk (record { command = command_of (texts words.now); before = record { pages = pages; journal = journal }; after = record { pages = result.pages; journal = result.journal }; status = result.status }) }
-    ensures makes { Makes D.Disk (record { command = command_of (texts words.now); before = record { pages = pages; journal = journal }; after = record { pages = result.pages; journal = result.journal }; status = result.status }) }
-    ensures reads { Reads D.Disk (record { command = command_of (texts words.now); before = record { pages = pages; journal = journal }; after = record { pages = result.pages; journal = result.journal }; status = result.status }) }
-    ensures stops { Stops D.Disk (record { command = command_of (texts words.now); before = record { pages = pages; journal = journal }; after = record { pages = result.pages; journal = result.journal }; status = result.status }) }
+    ensures completes { Completes D.Disk (called (texts words.now) pages journal result) }
+    ensures spares { Spares D.Disk (called (texts words.now) pages journal result) }
+    ensures makes { Makes D.Disk (called (texts words.now) pages journal result) }
+    ensures reads { Reads D.Disk (called (texts words.now) pages journal result) }
+    ensures stops { Stops D.Disk (called (texts words.now) pages journal result) }
 {
     let Performed {
         outcome,

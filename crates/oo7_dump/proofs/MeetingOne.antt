@@ -1,5 +1,5 @@
 -- What is met by one reference, or by some and then others.
-use Rattle.std.proofs.Common.{◌≡◌, ◌<◌, ◌≤◌, ◌+◌, ◌++◌, ◌&&◌, ◌||◌, ℕ, Bool, true, false, cond, not, eqb, List, [], ◌∷◌, Option, Some, None, is_some, refl, sym, ap, ◌∙◌, inl, inr, length, take, get_or}
+use Rattle.std.proofs.Common.{◌≡◌, ◌<◌, ◌≤◌, ◌+◌, ◌++◌, ◌&&◌, ◌||◌, ℕ, Bool, true, false, cond, not, eqb, List, [], ◌∷◌, Option, Some, None, is_some, refl, sym, ap, ◌∙◌, inl, inr, length, take, get_or, Result, Ok, Err, OnOk}
 use Rattle.std.specs.Prelude.{◌==◌, slice_index}
 use Rattle.std.specs.FinMap.{get}
 use Rattle.std.specs.List.{position_from}
@@ -15,7 +15,15 @@ use Rattle.pm3_types.specs.Shown as shown
 use Rattle.pm3_types.proofs.FormedObjects.{address_of, start_of, whole_start}
 use Rattle.pm3_page.specs.PageMap.{Images}
 use Rattle.oo7_dump.specs.Held.{AreAmong}
+use Rattle.oo7_dump.specs.Meeting.{Meets}
 use Rattle.oo7_dump.specs.Raw.{raw_at, raw_in, raw_record}
+
+-- on success, references that are told by the pages are met as the same ones that are told by an object
+pub met_by_pages : {T E : Type 0} (result : Result T E) (catalog : List Fields) (images : Images) (old new names : List ℕ) (told : shown.Images → List ℕ)
+    → ((all : shown.Images) → AreAmong images all → told all ≡ names) → OnOk result (Meets catalog images old new names)
+    → OnOk result ((all : shown.Images) → AreAmong images all → new ≡ meet (raw_at catalog BASE all) old (told all))
+met_by_pages (Ok value) catalog images old new names told same met = λ all among. met all among ∙ ap (meet (raw_at catalog BASE all) old) (sym (same all among))
+met_by_pages (Err fault) catalog images old new names told same met = tt
 
 module _ (A : ℕ → Option Record) where
   -- some references, and then others

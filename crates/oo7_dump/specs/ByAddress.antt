@@ -18,6 +18,7 @@ module _ (catalog : List Fields) (base : ℕ) (images : Images) (count : ℕ) wh
   abbrev pub IsEnough : Type 0
   IsEnough = length met_addresses ≤ count
 
+  -- the text of the objects that are met so
   abbrev pub text_by_address : List ℕ
   text_by_address = text_of catalog (raw_at catalog base images) (root_words (get images 2)) met_addresses
 

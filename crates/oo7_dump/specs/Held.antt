@@ -23,5 +23,6 @@ pub record IsHeld (images : Images) (a : ℕ) : Type 0 where
   pub on : get images (page_in BASE a) ≡ Some image
   pub begins : begins_at BASE image a ≡ true
 
+-- each of these is held so
 abbrev pub AreHeld : Images → List ℕ → Type 0
 AreHeld images met = All (IsHeld images) met

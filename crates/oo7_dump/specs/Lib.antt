@@ -4,4 +4,5 @@ pub mod Numbers
 pub mod Held
 pub mod Loads
 pub mod Lost
+pub mod Meeting
 pub mod Places

@@ -24,6 +24,7 @@ abbrev pub references_in : Fields → (ℕ → ℕ) → ℕ → List ℕ
 references_in map word zero = []
 references_in map word (suc place) = references_in map word place ++ cond (is_place map place) (word place ∷ []) []
 
+-- a word of an image, or 0 where there is none
 abbrev pub word_on : Option PageImage → ℕ → ℕ
 word_on None i = 0
 word_on (Some image) i = slice_index image.sheet.words i

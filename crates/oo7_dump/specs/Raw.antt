@@ -19,10 +19,12 @@ raw_items Empty words at len = []
 raw_items Refs words at len = list_of len (λ k. slice_index words (at + k))
 raw_items Bytes words at len = list_of len (λ k. byte_in (slice_index words (at + k / 8)) (k % 8))
 
+-- those of a tail of so many, behind the fields
 abbrev pub raw_tail : Option Fields → List ℕ → ℕ → ℕ → List ℕ
 raw_tail None words at len = []
 raw_tail (Some map) words at len = raw_items map.tail words (at + 2 + map.count) len
 
+-- the record whose header word this is
 abbrev pub raw_by : Option Fields → List ℕ → ℕ → ℕ → Record
 raw_by map words at head = record { ty = type_in head; fields = raw_fields map words at; tail = raw_tail map words at (tail_in head) }
 

@@ -2,14 +2,13 @@
 ghost use Rattle.std.specs.Prelude.{◌≡◌, ◌≢◌, ◌+◌, ◌<◌, ◌≤◌, ◌∷◌, [], ℕ, true, false, cond, All, IsErrOf, OnOk};
 ghost use Rattle.pm3_core.specs.declared.naming.TheConstants.{BASE};
 ghost use Rattle.pm3_types.specs.Layout.{is_address, page_in, word_in};
-ghost use Rattle.pm3_types.specs.Numbering.{is_among, meet};
+ghost use Rattle.pm3_types.specs.Numbering.{is_among};
 ghost use Rattle.pm3_types.specs.PageForm.{is_memory_reference};
-ghost use Rattle.pm3_types.specs.Shown as shown;
-ghost use Rattle.oo7_dump.specs.Held.{AreAmong, AreHeld, AreSound, IsHeld};
+ghost use Rattle.oo7_dump.specs.Held.{AreHeld, AreSound, IsHeld};
 ghost use Rattle.oo7_dump.specs.Loads.{fault_of, Loads};
 ghost use Rattle.oo7_dump.specs.Lost.{IsLost, IsOneLost};
+ghost use Rattle.oo7_dump.specs.Meeting.{Meets};
 ghost use Rattle.oo7_dump.specs.Places.{HasPlaces, is_place, place_word, references_in};
-ghost use Rattle.oo7_dump.specs.Raw.{raw_at};
 
 use crate::addresses::{page_of, word_of};
 use crate::faults::DumpFault;
@@ -37,7 +36,7 @@ pub(crate) fn meet_all<R: Reader>(
     requires references { All (λ name. is_memory_reference BASE pages name ≡ true) names.now }
     ensures loads { Loads R.Reader catalog.now pages reader.old reader.new images.old.images images.new.images (fault_of result) }
     ensures held { OnOk result (AreHeld images.new.images met.new) }
-    ensures met { OnOk result ((all : shown.Images) → AreAmong images.new.images all → met.new ≡ meet (raw_at catalog.now BASE all) met.old names.now) }
+    ensures met { OnOk result (Meets catalog.now images.new.images met.old met.new names.now) }
     ensures damaged { (page word : ℕ) → IsErrOf result (DumpFault.Damaged page word)
         → IsOneLost catalog.now pages (R.content reader.old) images.new.images names.now page word }
 {
@@ -69,8 +68,7 @@ pub(crate) fn meet_places<R: Reader>(
     requires places { HasPlaces catalog.now pages images.old.images at map places }
     ensures loads { Loads R.Reader catalog.now pages reader.old reader.new images.old.images images.new.images (fault_of result) }
     ensures held { OnOk result (AreHeld images.new.images met.new) }
-    ensures met { OnOk result ((all : shown.Images) → AreAmong images.new.images all
-        → met.new ≡ meet (raw_at catalog.now BASE all) met.old (references_in map (place_word images.old.images at) places)) }
+    ensures met { OnOk result (Meets catalog.now images.new.images met.old met.new (references_in map (place_word images.old.images at) places)) }
     ensures damaged { (page word : ℕ) → IsErrOf result (DumpFault.Damaged page word)
         → IsOneLost catalog.now pages (R.content reader.old) images.new.images (references_in map (place_word images.old.images at) places) page word }
 {
@@ -103,8 +101,7 @@ fn meet_place<R: Reader>(
     requires refers { is_place map place ≡ true → is_memory_reference BASE pages (place_word images.old.images at place) ≡ true }
     ensures loads { Loads R.Reader catalog.now pages reader.old reader.new images.old.images images.new.images (fault_of result) }
     ensures held { OnOk result (AreHeld images.new.images met.new) }
-    ensures met { OnOk result ((all : shown.Images) → AreAmong images.new.images all
-        → met.new ≡ meet (raw_at catalog.now BASE all) met.old (cond (is_place map place) (place_word images.old.images at place ∷ []) [])) }
+    ensures met { OnOk result (Meets catalog.now images.new.images met.old met.new (cond (is_place map place) (place_word images.old.images at place ∷ []) [])) }
     ensures damaged { (page word : ℕ) → IsErrOf result (DumpFault.Damaged page word)
         → (is_place map place ≡ true) × IsLost catalog.now pages (R.content reader.old) images.new.images (place_word images.old.images at place) page word }
 {
@@ -141,7 +138,7 @@ fn meet_one<R: Reader>(
     requires reference { is_memory_reference BASE pages name ≡ true }
     ensures loads { Loads R.Reader catalog.now pages reader.old reader.new images.old.images images.new.images (fault_of result) }
     ensures held { OnOk result (AreHeld images.new.images met.new) }
-    ensures met { OnOk result ((all : shown.Images) → AreAmong images.new.images all → met.new ≡ meet (raw_at catalog.now BASE all) met.old (name ∷ [])) }
+    ensures met { OnOk result (Meets catalog.now images.new.images met.old met.new (name ∷ [])) }
     ensures damaged { (page word : ℕ) → IsErrOf result (DumpFault.Damaged page word)
         → IsLost catalog.now pages (R.content reader.old) images.new.images name page word }
 {
@@ -173,7 +170,7 @@ fn meet_new<R: Reader>(
     requires new { is_among met.old name ≡ false }
     ensures loads { Loads R.Reader catalog.now pages reader.old reader.new images.old.images images.new.images (fault_of result) }
     ensures held { OnOk result (AreHeld images.new.images met.new) }
-    ensures met { OnOk result ((all : shown.Images) → AreAmong images.new.images all → met.new ≡ meet (raw_at catalog.now BASE all) met.old (name ∷ [])) }
+    ensures met { OnOk result (Meets catalog.now images.new.images met.old met.new (name ∷ [])) }
     ensures damaged { (page word : ℕ) → IsErrOf result (DumpFault.Damaged page word)
         → IsLost catalog.now pages (R.content reader.old) images.new.images name page word }
 {
