@@ -11,7 +11,7 @@ use Rattle.pm3_types.proofs.FormedObjects.{objects_of}
 use Rattle.pm3_copy.specs.Copies.{IsCopied}
 use Rattle.pm3_copy.specs.Moving.{IsSameObject, PutsCopy}
 use Rattle.pm3_page.specs.PageMap.{Images}
-use Rattle.pm3_copy.proofs.SoundPages.{get_here, get_else, gone_else}
+use Rattle.pm3_copy.proofs.SoundPages.{get_here, get_else}
 
 -- a page without objects ends behind its first two words
 pub blank_end : end_of blank_sheet ≡ 2
@@ -54,19 +54,19 @@ module _ (catalog : List Fields) (base : ℕ) (source : Sheet) (s : ℕ) (target
       at_zero : get_or target.sheet.words (t + 0) 0 ≡ get_or first.words (u + 0) 0 → get_or target.sheet.words t 0 ≡ get_or first.words u 0
       at_zero e = ap (λ n. get_or target.sheet.words n 0) (sym (add-zero t)) ∙ e ∙ ap (λ n. get_or first.words n 0) (add-zero u)
 
--- a page whose image was taken out, changed and put back
-pub put_copy : (catalog : List Fields) (base : ℕ) (images : Images) (a page : ℕ) (old new : Images) (source target now : PageImage)
-    → map_of.get images (page_in base a) ≡ Some source → begins_at base source a ≡ true → map_of.get old page ≡ Some target → now.page ≡ page
-    → IsCopied source.sheet (word_in base a) (size_at catalog source.sheet (word_in base a)) target now → new ≡ map_of.insert (map_of.remove old page) now.page now
-    → PutsCopy catalog base images a page old new
-put_copy catalog base images a page old new source target now on begins was home copied is = record {
+-- a page whose image was changed
+pub put_copy : (catalog : List Fields) (base : ℕ) (images : Images) (a page : ℕ) (old : Images) (source target now : PageImage)
+    → map_of.get images (page_in base a) ≡ Some source → begins_at base source a ≡ true → map_of.get old page ≡ Some target
+    → IsCopied source.sheet (word_in base a) (size_at catalog source.sheet (word_in base a)) target now
+    → PutsCopy catalog base images a page old (map_of.insert old page now)
+put_copy catalog base images a page old source target now on begins was copied = record {
   source = source;
   target = target;
   now = now;
   on = on;
   begins = begins;
   was = was;
-  is = ap (λ (m : Images). map_of.get m page) is ∙ get_here (map_of.remove old page) now.page page now (sym home);
+  is = get_here old page page now refl;
   copied = copied;
-  others = λ p apart. ap (λ (m : Images). map_of.get m p) is ∙ get_else (map_of.remove old page) now.page p now (λ e. apart (e ∙ home)) ∙ gone_else old page p apart;
+  others = λ p apart. get_else old page p now apart;
 }

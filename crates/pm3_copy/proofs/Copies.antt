@@ -1,17 +1,26 @@
 -- A copy behind the last object of a page.
-use Rattle.std.proofs.Common.{◌≡◌, ◌≢◌, ◌<◌, ◌≤◌, ◌+◌, ◌-◌, ◌*◌, ◌^◌, ◌==◌, ◌||◌, ◌∙◌, ◌⊎◌, inl, inr, ℕ, zero, suc, [], ◌∷◌, Bool, true, false, eqb, ltb, List, length, get_or, Option, Some, slice_get, refl, sym, ap, subst, arith, get_or-set_same}
+use Rattle.std.proofs.Common.{◌≡◌, ◌≢◌, ◌<◌, ◌≤◌, ◌+◌, ◌-◌, ◌*◌, ◌^◌, ◌==◌, ◌||◌, ◌∙◌, ◌⊎◌, inl, inr, ℕ, Bool, true, false, eqb, ltb, List, length, get_or, Some, slice_get, refl, sym, ap, subst, arith, length-set, get_or-set_same, get_or-set_other}
 use Rattle.std.proofs.lemmas.Bool.{cases_eq, cases_lt, and_parts, ltb-true, eqb-true, ne_eqb, cond-false, false≢true}
 use Rattle.pm3_types.specs.Fields.{Fields}
-use Rattle.pm3_types.specs.Layout.{Sheet, PageImage, address, begins_at, word_in, is_start, type_in, tail_in, head_of, has_tail, has_tail_by, size_by, size_of, size_at, end_of, end_by, used_in, page_head, placed_on}
-use Rattle.pm3_types.specs.PageForm.{HasObjects, IsSound, IsReferenceIn, IsTailBytes, is_head_of, is_name, is_padded, is_memory_reference, map_at, tail_at}
-use Rattle.pm3_copy.specs.Copies.{IsCopied, IsCopyingTo}
+use Rattle.pm3_types.specs.Layout.{Sheet, PageImage, is_start, type_in, tail_in, head_of, has_tail_by, size_by, size_of, size_at, end_of, end_by, used_in, page_head, placed_on}
+use Rattle.pm3_types.specs.PageForm.{HasObjects, IsSound, IsReferenceIn, IsTailBytes, is_head_of, is_padded, is_memory_reference, map_at, tail_at}
+use Rattle.pm3_page.specs.Overwriting.{copied_on, overwritten, words_at}
+use Rattle.pm3_copy.specs.Copies.{IsCopied}
+use Rattle.pm3_copy.proofs.Overwritten.{over_long, over_before, over_within, over_behind, words_at-long, word_at}
 use Rattle.pm3_types.specs.Whole.{IsWhole}
 use Rattle.pm3_types.proofs.FormedObjects.{reference_within, bytes_within}
 use Rattle.pm3_copy.proofs.FormFrame.{frame_objects}
 use Rattle.pm3_types.proofs.PlacedForm.{IsFilled, filled, before, at_name, at_head, first_word, objects_placed}
-use Rattle.pm3_types.proofs.FormedObjects.{begins, objects_of}
-use Rattle.pm3_copy.proofs.Wholes.{same_some, none_some}
-use Rattle.pm3_types.proofs.Addressing.{is_address-address, page_in-address, word_in-address}
+use Rattle.pm3_types.proofs.FormedObjects.{objects_of}
+use Rattle.pm3_copy.proofs.Wholes.{same_some}
+
+-- the first n words from one place on are those from another place on of other words, and nothing else has changed
+pub record IsCopyingTo (words : List ℕ) (s t n : ℕ) (old new : PageImage) : Type 0 where
+  pub page : new.page ≡ old.page
+  pub starts : new.sheet.starts ≡ old.sheet.starts
+  pub long : length new.sheet.words ≡ length old.sheet.words
+  pub copied : (k : ℕ) → k < n → get_or new.sheet.words (t + k) 0 ≡ get_or words (s + k) 0
+  pub others : (i : ℕ) → (i < t) ⊎ (t + n ≤ i) → get_or new.sheet.words i 0 ≡ get_or old.sheet.words i 0
 
 low_of : (fields : Fields) (h : ℕ) → is_head_of fields h ≡ true → h < 2 ^ 48
 unfolding is_head_of
@@ -30,15 +39,6 @@ tail_zero false n is none = eqb-true n 0 is
 pub no_tail : (fields : Fields) (h : ℕ) → is_head_of fields h ≡ true → has_tail_by fields.tail ≡ false → tail_in h ≡ 0
 unfolding is_head_of
 no_tail fields h is none = tail_zero (has_tail_by fields.tail) (tail_in h) (and_parts (ltb h (2 ^ 48)) _ is).1 none
-
--- the same of its type, as the catalog has it
-pub no_tail_in : (o : Option Fields) (fields : Fields) (h : ℕ) → o ≡ Some fields → is_head_of fields h ≡ true → has_tail o ≡ false → tail_in h ≡ 0
-no_tail_in o fields h of is none = no_tail fields h is (sym (ap has_tail of) ∙ none)
-
-pub there : (catalog : List Fields) (ty : ℕ) (fields : Fields) → slice_get catalog ty ≡ Some fields → ty < length catalog
-there [] ty fields is = none_some fields _ is
-there (x ∷ xs) zero fields is = omega arith
-there (x ∷ xs) (suc ty) fields is = (let more = there xs ty fields is in omega arith)
 
 used_of : (page used : ℕ) → page < 2 ^ 32 → used_in (page_head page used) ≡ used
 unfolding used_in page_head
@@ -117,6 +117,69 @@ module _ (catalog : List Fields) (base : ℕ) (source : Sheet) (s : ℕ) (whole 
 
   put_size : size_at catalog put.sheet t ≡ size
   put_size = ap (size_of catalog) head_now
+
+  -- the same with the words of the object written there
+  module _ (wide : s + size ≤ length source.words) where
+    abbrev pub copy_on : PageImage
+    copy_on = copied_on target size (words_at source s size)
+
+    long : length (words_at source s size) ≡ size
+    long = words_at-long source s size wide
+
+    within : t + length (words_at source s size) ≤ length target.sheet.words
+    within = omega (arith, long, fits, is_filled.laid.words)
+
+    word_now : (i : ℕ) → 0 < i → get_or copy_on.sheet.words i 0 ≡ get_or (overwritten target.sheet.words t (words_at source s size)) i 0
+    word_now i some = get_or-set_other (overwritten target.sheet.words t (words_at source s size)) 0 i (page_head target.page (t + size)) 0 (λ e. omega arith)
+
+    object_now : (k : ℕ) → k < size → get_or copy_on.sheet.words (t + k) 0 ≡ get_or source.words (s + k) 0
+    object_now k low =
+        let b = begin_ in
+        word_now (t + k) (omega arith) ∙ over_within target.sheet.words t (words_at source s size) within (t + k) (omega arith) (omega (arith, long)) ∙ ap (λ n. get_or (words_at source s size) n 0) (omega arith)
+        ∙ word_at source s size k low
+
+    pub copies : IsCopyingTo source.words (s + 2) (t + 2) (size - 2) put copy_on
+    copies = record {
+      page = refl;
+      starts = refl;
+      long = length-set (overwritten target.sheet.words t (words_at source s size)) 0 (page_head target.page (t + size)) ∙ over_long target.sheet.words t (words_at source s size) within ∙ is_filled.laid.words
+          ∙ sym put_objects.laid.words;
+      copied = λ k low. ap (λ n. get_or copy_on.sheet.words n 0) (behind_two t k) ∙ object_now (2 + k) (omega arith) ∙ ap (λ n. get_or source.words n 0) (sym (behind_two s k));
+      others = others;
+    }
+      where
+        behind_two : (n k : ℕ) → n + 2 + k ≡ n + (2 + k)
+        behind_two n k = omega arith
+
+        at_first : get_or copy_on.sheet.words 0 0 ≡ get_or put.sheet.words 0 0
+        at_first = get_or-set_same (overwritten target.sheet.words t (words_at source s size)) 0 (page_head target.page (t + size)) 0 (let w = within in let o = over_long target.sheet.words t (words_at source s size) within in omega (arith, is_filled.laid.words)) ∙ sym first_now
+
+        at_object : (i : ℕ) → t ≤ i → i < t + 2 → get_or copy_on.sheet.words i 0 ≡ get_or put.sheet.words i 0
+        at_object i low high = elim (cases_eq i t) [
+          | inl same ↦ (
+              let e : i ≡ t + 0 = omega arith in
+              ap (λ n. get_or copy_on.sheet.words n 0) e ∙ object_now 0 (omega (arith, whole.size)) ∙ ap (λ n. get_or source.words n 0) (omega arith) ∙ sym head_now ∙ ap (λ n. get_or put.sheet.words n 0) (sym same))
+          | inr apart_ ↦ (
+              let e : i ≡ t + 1 = omega arith in
+              ap (λ n. get_or copy_on.sheet.words n 0) e ∙ object_now 1 (omega (arith, whole.size)) ∙ sym name_now ∙ ap (λ n. get_or put.sheet.words n 0) (sym e))
+        ]
+
+        at_low : (i : ℕ) → i < t + 2 → get_or copy_on.sheet.words i 0 ≡ get_or put.sheet.words i 0
+        at_low i low = elim (cases_lt i t) [
+          | inl before_ ↦ elim (cases_eq i 0) [
+            | inl first_ ↦ ap (λ n. get_or copy_on.sheet.words n 0) first_ ∙ at_first ∙ ap (λ n. get_or put.sheet.words n 0) (sym first_)
+            | inr some ↦ word_now i (omega arith) ∙ over_before target.sheet.words t (words_at source s size) within i before_ ∙ sym (before_now i (omega arith) before_)
+          ]
+          | inr behind ↦ at_object i behind low
+        ]
+
+        others : (i : ℕ) → (i < t + 2) ⊎ (t + 2 + (size - 2) ≤ i) → get_or copy_on.sheet.words i 0 ≡ get_or put.sheet.words i 0
+        others i (inl low) = at_low i low
+        others i (inr high) =
+            let past : t + size ≤ i = omega (arith, whole.size) in
+            let b = begin_ in
+            word_now i (omega arith) ∙ over_behind target.sheet.words t (words_at source s size) within i (omega (arith, long)) ∙ is_filled.laid.rest i (omega arith)
+            ∙ sym (put_objects.laid.rest i (omega (arith, put_end)))
 
   module _ (now : PageImage) (copy : IsCopyingTo source.words (s + 2) (t + 2) (size - 2) put now) where
     outside : (i : ℕ) → (i < t + 2) ⊎ (t + size ≤ i) → get_or now.sheet.words i 0 ≡ get_or put.sheet.words i 0
@@ -210,13 +273,6 @@ module _ (catalog : List Fields) (base : ℕ) (source : Sheet) (s : ℕ) (whole 
       others = λ i some below. outside i (inl (omega arith)) ∙ before_now i some below;
     }
 
-name_bounds : (n : ℕ) → is_name n ≡ true → (0 < n) × (n < 2 ^ 62)
-unfolding is_name
-name_bounds n is = (let parts = and_parts (ltb 0 n) (ltb n (2 ^ 62)) is in (ltb-true 0 n parts.0, ltb-true n (2 ^ 62) parts.1))
-
-pub named_well : (n : ℕ) → is_name n ≡ true → (0 < n) × (n < 2 ^ 62)
-named_well = name_bounds
-
 -- what the references and the padding of a sound image are
 pub source_refs : (catalog : List Fields) (base : ℕ) (image : PageImage) (s : ℕ) → IsSound catalog base 16384 image → is_start image.sheet s ≡ true
     → (k : ℕ) → IsReferenceIn (map_at catalog image.sheet s) (tail_at image.sheet s) k → is_memory_reference base 16384 (get_or image.sheet.words (s + 2 + k) 0) ≡ true
@@ -226,22 +282,9 @@ pub source_pads : (catalog : List Fields) (base : ℕ) (image : PageImage) (s : 
     → (j k : ℕ) → IsTailBytes (map_at catalog image.sheet s) (tail_at image.sheet s) j k → is_padded (tail_at image.sheet s - 8 * j) (get_or image.sheet.words (s + 2 + k) 0) ≡ true
 source_pads catalog base image s form start j k item = (objects_of catalog (is_memory_reference base 16384) image.page image.sheet s form start).1.padding s j k start item
 
--- where a new object begins
-pub begins_behind : (base : ℕ) (image : PageImage) (at : ℕ) → at < 512 → is_start image.sheet at ≡ true → begins_at base image (address base image.page at) ≡ true
-begins_behind base image at low start =
-    begins base image (address base image.page at) (is_address-address base image.page at) (page_in-address base image.page at low)
-    (ap (is_start image.sheet) (word_in-address base image.page at low) ∙ start)
-
--- an image that was placed on, with its parts as a head has them
-pub put_is : (catalog : List Fields) (target : PageImage) (ty tl name ty_read tl_read name_read : ℕ) → ty_read ≡ ty → tl_read ≡ tl → name_read ≡ name
-    → placed_on target (size_by (slice_get catalog ty_read) tl_read) (head_of ty_read tl_read) name_read ≡ placed_on target (size_by (slice_get catalog ty) tl) (head_of ty tl) name
-put_is catalog target ty tl name ty_read tl_read name_read a b c = λ i. placed_on target (size_by (slice_get catalog (a i)) (b i)) (head_of (a i) (b i)) (c i)
-
--- an image that was placed on, with its parts as they were read, and then the body
+-- an image on which the object was copied
 module _ (catalog : List Fields) (base : ℕ) (source : PageImage) (s : ℕ) (whole : IsWhole catalog source.sheet s) (source_form : IsSound catalog base 16384 source) (target : PageImage)
-    (form : IsSound catalog base 16384 target) (apart : target.page ≢ 2) (low : target.page < 16384) (fits : end_of target.sheet + size_at catalog source.sheet s ≤ 512) (ty tl name : ℕ)
-    (ty_is : ty ≡ type_in (get_or source.sheet.words s 0)) (tl_is : tl ≡ tail_in (get_or source.sheet.words s 0)) (name_is : name ≡ get_or source.sheet.words (s + 1) 0) (mid : PageImage)
-    (placed_is : mid ≡ placed_on target (size_by (slice_get catalog ty) tl) (head_of ty tl) name) (to : ℕ) (at : to ≡ address base target.page (end_of target.sheet)) where
+    (form : IsSound catalog base 16384 target) (apart : target.page ≢ 2) (low : target.page < 16384) (fits : end_of target.sheet + size_at catalog source.sheet s ≤ 512) where
   small : target.page < 2 ^ 32
   small = omega arith
 
@@ -251,25 +294,13 @@ module _ (catalog : List Fields) (base : ℕ) (source : PageImage) (s : ℕ) (wh
   pads : (j k : ℕ) → IsTailBytes (map_at catalog source.sheet s) (tail_at source.sheet s) j k → is_padded (tail_at source.sheet s - 8 * j) (get_or source.sheet.words (s + 2 + k) 0) ≡ true
   pads = source_pads catalog base source s source_form whole.begins
 
-  stands : mid ≡ put catalog base source.sheet s whole refs pads target form apart small fits
-  stands =
-      placed_is
-      ∙ put_is catalog target (type_in (get_or source.sheet.words s 0)) (tail_in (get_or source.sheet.words s 0)) (get_or source.sheet.words (s + 1) 0) ty tl name ty_is tl_is name_is
+  wide : s + size_at catalog source.sheet s ≤ length source.sheet.words
+  wide = (let words = (objects_of catalog (is_memory_reference base 16384) source.page source.sheet s source_form whole.begins).1.laid.words in omega (arith, words, whole.within))
 
-  pub word_there : word_in base to ≡ end_of target.sheet
-  word_there = ap (word_in base) at ∙ word_in-address base target.page (end_of target.sheet) (omega (arith, fits, whole.size))
-
-  pub begins_there : begins_at base mid to ≡ true
-  begins_there =
-      ap (λ i. begins_at base i to) stands ∙ ap (begins_at base (put catalog base source.sheet s whole refs pads target form apart small fits)) at
-      ∙ begins_behind base (put catalog base source.sheet s whole refs pads target form apart small fits) (end_of target.sheet) (omega (arith, fits, whole.size))
-      (put_start catalog base source.sheet s whole refs pads target form apart small fits)
-
-  pub copy_made : (now : PageImage) (size : ℕ) → size ≡ size_at catalog source.sheet s → IsCopyingTo source.sheet.words (s + 2) (word_in base to + 2) (size - 2) mid now
+  pub copy_made : (now : PageImage) (n : ℕ) → n ≡ size_at catalog source.sheet s → now ≡ copied_on target n (words_at source.sheet s n)
       → IsCopied source.sheet s (size_at catalog source.sheet s) target now × IsSound catalog base 16384 now
-  copy_made now size size_is copying =
-      let A : ℕ → Type 0 = λ x. IsCopyingTo source.sheet.words (s + 2) (x + 2) (size - 2) mid now in
-      let B : ℕ → Type 0 = λ x. IsCopyingTo source.sheet.words (s + 2) (end_of target.sheet + 2) (x - 2) mid now in
-      let C : PageImage → Type 0 = λ x. IsCopyingTo source.sheet.words (s + 2) (end_of target.sheet + 2) (size_at catalog source.sheet s - 2) x now in
-      let copy = subst C stands (subst B size_is (subst A word_there copying)) in
+  copy_made now n size_is is =
+      let same : copied_on target (size_at catalog source.sheet s) (words_at source.sheet s (size_at catalog source.sheet s)) ≡ now = ap (λ k. copied_on target k (words_at source.sheet s k)) (sym size_is) ∙ sym is in
+      let copy = subst (IsCopyingTo source.sheet.words (s + 2) (end_of target.sheet + 2) (size_at catalog source.sheet s - 2) (put catalog base source.sheet s whole refs pads target form apart small fits)) same
+      (copies catalog base source.sheet s whole refs pads target form apart small fits wide) in
       (is_copied catalog base source.sheet s whole refs pads target form apart small fits now copy, copied_sound catalog base source.sheet s whole refs pads target form apart small fits now copy)

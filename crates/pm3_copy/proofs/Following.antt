@@ -1,5 +1,5 @@
 -- Where the table of moves leads.
-use Rattle.std.proofs.Common.{◌≡◌, ◌≢◌, ◌<◌, ◌==◌, ◌∙◌, inl, inr, ℕ, zero, suc, List, [], ◌∷◌, ◌++◌, length, get_or, refl, sym, arith}
+use Rattle.std.proofs.Common.{◌≡◌, ◌≢◌, ◌<◌, ◌==◌, ◌∙◌, ◌⊎◌, inl, inr, ℕ, zero, suc, List, [], ◌∷◌, ◌++◌, length, get_or, refl, sym, arith}
 use Rattle.std.specs.List.{Contains}
 use Rattle.std.proofs.lemmas.Bool.{cases_eq, cond-true, cond-false, eq-eqb, ne_eqb}
 use Rattle.pm3_types.specs.PassMoves.{IsRising, Move, paired, moved_by}
@@ -43,3 +43,13 @@ passed_over [] news ms w same never = refl
 passed_over (x ∷ xs) [] ms w same never = absurd (omega arith)
 passed_over (x ∷ xs) (y ∷ ys) ms w same never =
     cond-false (x == w) _ _ (ne_eqb x w (λ e. never (0, omega arith, e))) ∙ passed_over xs ys ms w (omega arith) (λ c. never (suc c.0, omega (arith, c.1), c.2))
+
+module _ (olds news others others_news : List ℕ) (w : ℕ) (whole : length news ≡ length olds) where
+  -- what is none of the others goes where the first moves lead
+  pub by_first : Contains olds w ⊎ (Contains olds w → ⊥) → (Contains others w → ⊥) → new_address olds news w ≡ moved_by (paired olds news ++ paired others others_news) w
+  by_first (inl there) never = sym (first_partner olds news (paired others others_news) w whole there)
+  by_first (inr away) never = stays olds news w away ∙ sym (passed_over olds news (paired others others_news) w whole away ∙ stays others others_news w never)
+
+  -- what is none of the first goes where the others lead
+  pub by_second : (Contains olds w → ⊥) → new_address others others_news w ≡ moved_by (paired olds news ++ paired others others_news) w
+  by_second away = sym (passed_over olds news (paired others others_news) w whole away)

@@ -4,6 +4,7 @@ pub mod Listing
 pub mod Numbered
 pub mod Wholes
 pub mod Collecting
+pub mod ReferencePlaces
 pub mod References
 pub mod WorkLists
 pub mod Turning
@@ -17,6 +18,7 @@ pub mod SoundPages
 pub mod Following
 pub mod Destinations
 pub mod FormFrame
+pub mod Overwritten
 pub mod Copies
 pub mod Renamed
 pub mod RenamedPages
@@ -37,3 +39,4 @@ pub mod LaterPasses
 pub mod FreshPages
 pub mod PlanParted
 pub mod Bounded
+pub mod Subsets

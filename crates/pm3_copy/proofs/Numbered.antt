@@ -2,12 +2,12 @@
 use Rattle.std.proofs.Common.{◌≡◌, ◌≢◌, ◌<◌, ◌≤◌, ◌+◌, ◌*◌, ◌/◌, ◌⊎◌, inl, inr, ◌∙◌, ℕ, true, List, length, get_or, set, replicate, refl, sym, ap, subst, arith, length-set, get_or-set_same, get_or-set_other}
 use Rattle.std.specs.List.{All, Contains}
 use Rattle.std.proofs.lemmas.Bool.{cases_eq, cases_lt}
-use Rattle.std.proofs.lemmas.List.{get_or_past, get_or-replicate, length-replicate}
+use Rattle.std.proofs.lemmas.List.{get_or_default, get_or_past, get_or-replicate, length-replicate}
 use Rattle.std.proofs.lemmas.List.Elements.{Contains-get_or}
 use Rattle.pm3_types.specs.Layout.{address, is_address, page_in, word_in}
 use Rattle.pm3_types.specs.PassMoves.{IsRising}
 use Rattle.pm3_types.proofs.Addressing.{address_of, word_in-lt}
-use Rattle.pm3_copy.specs.Blocks.{block_of, slot_of, number_of, HasBlock, AreBlocks, AreOnBlocks}
+use Rattle.pm3_copy.specs.Blocks.{block_of, slot_of, number_of, HasBlock, AreBlocks, AreOnBlocks, AreNumbered}
 use Rattle.pm3_copy.proofs.Listing.{rising_distinct}
 
 -- no page has a block
@@ -94,39 +94,39 @@ module _ (base : ℕ) (blocks : List ℕ) (words : ℕ) (are : AreBlocks blocks 
       sym (address_of base a first) ∙ (λ i. address base (page i) (word i)) ∙ address_of base b second
 
 -- the first addresses of a list have been numbered
-pub record AreNumberedBelow (base : ℕ) (blocks list : List ℕ) (n : ℕ) (old now : List ℕ) : Type 0 where
+pub record AreNumberedBelow (base : ℕ) (blocks : List ℕ) (first : ℕ) (list : List ℕ) (n : ℕ) (old now : List ℕ) : Type 0 where
   pub long : length now ≡ length old
-  pub done : (k : ℕ) → k < n → number_of base blocks now (get_or list k 0) ≡ k
+  pub done : (k : ℕ) → k < n → number_of base blocks now (get_or list k 0) ≡ first + k
   pub others : (s : ℕ) → ((k : ℕ) → k < n → slot_of base blocks (get_or list k 0) ≢ s) → get_or now s 0 ≡ get_or old s 0
 
-pub below_none : (base : ℕ) (blocks list old : List ℕ) → AreNumberedBelow base blocks list 0 old old
-below_none base blocks list old = record { long = refl; done = λ k low. absurd (omega arith); others = λ s apart. refl }
+pub below_none : (base : ℕ) (blocks : List ℕ) (first : ℕ) (list old : List ℕ) → AreNumberedBelow base blocks first list 0 old old
+below_none base blocks first list old = record { long = refl; done = λ k low. absurd (omega arith); others = λ s apart. refl }
 
-module _ (base : ℕ) (blocks list old : List ℕ) (words : ℕ) (same_words : length old ≡ words) (are : AreBlocks blocks words) (on : AreOnBlocks base blocks words list) (rising : IsRising list) where
-  pub below_more : (n : ℕ) (now : List ℕ) → n < length list → AreNumberedBelow base blocks list n old now → AreNumberedBelow base blocks list (n + 1) old (set now (slot_of base blocks (get_or list n 0)) n)
+module _ (base : ℕ) (blocks : List ℕ) (first : ℕ) (list old : List ℕ) (words : ℕ) (same_words : length old ≡ words) (are : AreBlocks blocks words) (on : AreOnBlocks base blocks words list) (rising : IsRising list) where
+  pub below_more : (n : ℕ) (now : List ℕ) → n < length list → AreNumberedBelow base blocks first list n old now → AreNumberedBelow base blocks first list (n + 1) old (set now (slot_of base blocks (get_or list n 0)) (first + n))
   below_more n now low below = record {
-    long = length-set now (slot_of base blocks (get_or list n 0)) n ∙ below.long;
+    long = length-set now (slot_of base blocks (get_or list n 0)) (first + n) ∙ below.long;
     done = done;
-    others = λ s apart. get_or-set_other now (slot_of base blocks (get_or list n 0)) s n 0 (λ e. apart n (omega arith) (sym e)) ∙ below.others s (λ k less. apart k (omega arith));
+    others = λ s apart. get_or-set_other now (slot_of base blocks (get_or list n 0)) s (first + n) 0 (λ e. apart n (omega arith) (sym e)) ∙ below.others s (λ k less. apart k (omega arith));
   }
     where
       place : (k : ℕ) → k < length list → (is_address base (get_or list k 0) ≡ true) × HasBlock blocks words (page_in base (get_or list k 0))
       place k there = on (get_or list k 0) (Contains-get_or list k 0 there)
 
-      done : (k : ℕ) → k < n + 1 → number_of base blocks (set now (slot_of base blocks (get_or list n 0)) n) (get_or list k 0) ≡ k
+      done : (k : ℕ) → k < n + 1 → number_of base blocks (set now (slot_of base blocks (get_or list n 0)) (first + n)) (get_or list k 0) ≡ first + k
       done k less = elim (cases_eq k n) [
         | inl same ↦
-            ap (λ j. get_or (set now (slot_of base blocks (get_or list n 0)) n) (slot_of base blocks (get_or list j 0)) 0) same
-            ∙ get_or-set_same now (slot_of base blocks (get_or list n 0)) n 0 (let there = slot_low base blocks words are (get_or list n 0) (place n low).1 in let long = below.long in omega arith) ∙ sym same
+            ap (λ j. get_or (set now (slot_of base blocks (get_or list n 0)) (first + n)) (slot_of base blocks (get_or list j 0)) 0) same
+            ∙ get_or-set_same now (slot_of base blocks (get_or list n 0)) (first + n) 0 (let there = slot_low base blocks words are (get_or list n 0) (place n low).1 in let long = below.long in omega arith) ∙ ap (λ j. first + j) (sym same)
         | inr apart ↦
-            get_or-set_other now (slot_of base blocks (get_or list n 0)) (slot_of base blocks (get_or list k 0)) n 0
+            get_or-set_other now (slot_of base blocks (get_or list n 0)) (slot_of base blocks (get_or list k 0)) (first + n) 0
             (λ e. apart (rising_distinct list k n rising (omega arith) low
             (slots_apart base blocks words are (get_or list k 0) (get_or list n 0) (place k (omega arith)).0 (place n low).0 (place k (omega arith)).1 e)))
             ∙ below.done k (omega arith)
       ]
 
   -- an address that is not in the list keeps its number
-  pub below_others : (n : ℕ) (now : List ℕ) (a : ℕ) → n ≤ length list → AreNumberedBelow base blocks list n old now → is_address base a ≡ true → HasBlock blocks words (page_in base a) → (Contains list a → ⊥)
+  pub below_others : (n : ℕ) (now : List ℕ) (a : ℕ) → n ≤ length list → AreNumberedBelow base blocks first list n old now → is_address base a ≡ true → HasBlock blocks words (page_in base a) → (Contains list a → ⊥)
       → number_of base blocks now a ≡ number_of base blocks old a
   below_others n now a end below address has never =
       below.others (slot_of base blocks a) (λ k less e. never (subst (Contains list)
@@ -136,3 +136,8 @@ module _ (base : ℕ) (blocks list old : List ℕ) (words : ℕ) (same_words : l
 -- a list within another on pages with blocks
 pub on_blocks_of : (base : ℕ) (blocks : List ℕ) (words : ℕ) (all list : List ℕ) → AreOnBlocks base blocks words all → All (Contains all) list → AreOnBlocks base blocks words list
 on_blocks_of base blocks words all list on within a (k, low, is) = on a (subst (Contains all) is (within k a low))
+
+-- the number of a member of a list that is numbered
+pub numbered_at : (base : ℕ) (blocks numbers : List ℕ) (first : ℕ) (list : List ℕ) (w : ℕ) → AreNumbered base blocks numbers first list → Contains list w
+    → (k : ℕ) × (k < length list) × (get_or list k 0 ≡ w) × (number_of base blocks numbers w ≡ first + k)
+numbered_at base blocks numbers first list w are (k, low, is) = (let at = get_or_default list k 0 w low ∙ is in (k, low, at, ap (number_of base blocks numbers) (sym at) ∙ are k low))

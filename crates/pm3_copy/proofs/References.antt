@@ -3,10 +3,9 @@ use Rattle.std.proofs.Common.{◌≡◌, ◌≢◌, ℕ, ◌+◌, ◌<◌, ◌�
 use Rattle.std.proofs.lemmas.Bool.{cases_lt, cases_eq, false≢true}
 use Rattle.std.specs.List.{Contains}
 use Rattle.pm3_types.specs.Fields.{Fields}
-use Rattle.pm3_types.specs.Layout.{Sheet, PageImage, begins_at, size_at}
+use Rattle.pm3_types.specs.Layout.{Sheet, PageImage, begins_at}
 use Rattle.pm3_types.specs.PageForm.{IsReferenceIn, map_at, tail_at}
 use Rattle.pm3_types.proofs.Addressing as addressing
-use Rattle.pm3_types.proofs.FormedObjects.{reference_within}
 use Rattle.pm3_copy.specs.Finds.{Finds, Adds}
 use Rattle.pm3_copy.specs.References.{RefersIn, RootsOn, ObjectsOn, RefersOn}
 use Rattle.pm3_copy.proofs.Adding.{adds_none, adds_then, adds_as}
@@ -42,10 +41,10 @@ module _ (catalog : List Fields) (sheet : Sheet) (s : ℕ) where
         | inr apart ↦ inl (record { place = r.place; low = omega (arith, r.low); reference = r.reference; is = r.is })
       ]
 
-  pub places_all : (n : ℕ) (old new : Finds) → n + 2 ≡ size_at catalog sheet s → Adds (RefersBelow catalog sheet s n) old new → Adds (RefersIn catalog sheet s) old new
-  places_all n old new size adds =
+  pub places_all : (n : ℕ) (old new : Finds) → ((k : ℕ) → IsReferenceIn (map_at catalog sheet s) (tail_at sheet s) k → k < n) → Adds (RefersBelow catalog sheet s n) old new → Adds (RefersIn catalog sheet s) old new
+  places_all n old new every adds =
       adds_as (RefersBelow catalog sheet s n) (RefersIn catalog sheet s) old new adds
-      (λ b there r. record { place = r.place; low = (let low = reference_within (map_at catalog sheet s) (tail_at sheet s) r.place r.reference in omega arith); reference = r.reference; is = r.is })
+      (λ b there r. record { place = r.place; low = every r.place r.reference; reference = r.reference; is = r.is })
       (λ b r. record { place = r.place; reference = r.reference; is = r.is })
 
 -- one of the objects of an image up to an address leads there

@@ -2,10 +2,9 @@
 use Rattle.std.proofs.Common.{◌≡◌, ◌<◌, ◌+◌, ◌∙◌, ◌⊎◌, inl, inr, ℕ, List, length, get_or, set, Option, refl, sym, ap, subst, arith, length-set, get_or-set_same, get_or-set_other}
 use Rattle.std.proofs.lemmas.Bool.{cases_eq}
 use Rattle.pm3_types.specs.Fields.{Fields}
-use Rattle.pm3_types.specs.Layout.{Sheet, with_word, size_at}
+use Rattle.pm3_types.specs.Layout.{Sheet, with_word}
 use Rattle.pm3_types.specs.PageForm.{IsReferenceIn, map_at, tail_at}
 use Rattle.pm3_copy.specs.Renaming.{IsRenamed, IsPlaceBelow, IsPlaceOf}
-use Rattle.pm3_types.proofs.FormedObjects.{reference_within}
 
 pub renamed_none : (Places : ℕ → Type 0) (to : ℕ → ℕ) (sheet : Sheet) → ((i : ℕ) → Places i → ⊥) → IsRenamed Places to sheet sheet
 renamed_none Places to sheet never = record { starts = refl; words = refl; places = λ i is. absurd (never i is); others = λ i away. refl }
@@ -54,9 +53,9 @@ module _ (o : Option Fields) (len s : ℕ) (to : ℕ → ℕ) where
         | inr apart ↦ inl (record { place = p.place; low = omega (arith, p.low); reference = p.reference; is = p.is })
       ]
 
-pub places_all : (catalog : List Fields) (sheet now : Sheet) (s n : ℕ) (o : Option Fields) (len : ℕ) (to : ℕ → ℕ) → o ≡ map_at catalog sheet s → len ≡ tail_at sheet s → n + 2 ≡ size_at catalog sheet s
+pub places_all : (catalog : List Fields) (sheet now : Sheet) (s n : ℕ) (o : Option Fields) (len : ℕ) (to : ℕ → ℕ) → o ≡ map_at catalog sheet s → len ≡ tail_at sheet s → ((k : ℕ) → IsReferenceIn o len k → k < n)
     → IsRenamed (IsPlaceBelow o len s n) to sheet now → IsRenamed (IsPlaceOf catalog sheet s) to sheet now
-places_all catalog sheet now s n o len to map_is len_is size is = renamed_as (IsPlaceBelow o len s n) (IsPlaceOf catalog sheet s) to sheet now is back on
+places_all catalog sheet now s n o len to map_is len_is every is = renamed_as (IsPlaceBelow o len s n) (IsPlaceOf catalog sheet s) to sheet now is back on
   where
     to_o : (k : ℕ) → IsReferenceIn (map_at catalog sheet s) (tail_at sheet s) k → IsReferenceIn o len k
     to_o k item = (let P : ℕ → Type 0 = λ l. IsReferenceIn (map_at catalog sheet s) l k in let Q : Option Fields → Type 0 = λ m. IsReferenceIn m len k in subst Q (sym map_is) (subst P (sym len_is) item))
@@ -65,7 +64,7 @@ places_all catalog sheet now s n o len to map_is len_is size is = renamed_as (Is
     from_o k item = (let P : ℕ → Type 0 = λ l. IsReferenceIn (map_at catalog sheet s) l k in let Q : Option Fields → Type 0 = λ m. IsReferenceIn m len k in subst P len_is (subst Q map_is item))
 
     back : (i : ℕ) → IsPlaceOf catalog sheet s i → IsPlaceBelow o len s n i
-    back i p = record { place = p.place; low = (let low = reference_within (map_at catalog sheet s) (tail_at sheet s) p.place p.reference in omega arith); reference = to_o p.place p.reference; is = p.is }
+    back i p = record { place = p.place; low = every p.place (to_o p.place p.reference); reference = to_o p.place p.reference; is = p.is }
 
     on : (i : ℕ) → IsPlaceBelow o len s n i → IsPlaceOf catalog sheet s i
     on i p = record { place = p.place; reference = from_o p.place p.reference; is = p.is }

@@ -7,10 +7,9 @@ use Rattle.pm3_types.specs.Fields.{Fields}
 use Rattle.pm3_types.specs.Layout.{Sheet, PageImage}
 use Rattle.pm3_types.specs.PageForm.{IsSound}
 use Rattle.pm3_page.specs.PageMap.{Images}
-use Rattle.pm3_page.specs.PageSheets.{AreSoundPages}
 use Rattle.pm3_copy.specs.Renaming.{IsUpdated, UpdatesPage, AreUpdated}
-use Rattle.pm3_copy.proofs.SoundPages.{get_here, get_else, gone_here, gone_else}
-use Rattle.pm3_copy.proofs.Wholes.{same_some, none_some}
+use Rattle.pm3_copy.proofs.SoundPages.{get_here, get_else}
+use Rattle.pm3_copy.proofs.Wholes.{same_some}
 
 -- a sound image has 512 words
 pub sound_long : (catalog : List Fields) (base : ℕ) (image : PageImage) → IsSound catalog base 16384 image → length image.sheet.words ≡ 512
@@ -20,20 +19,12 @@ sound_long catalog base image sound = elim (cases_eq image.page 2) [
 ]
 
 module _ (catalog : List Fields) (base : ℕ) (to : ℕ → ℕ) where
-  pub sound_gone : (images : Images) (p : ℕ) → AreSoundPages catalog base 16384 images → AreSoundPages catalog base 16384 (map.remove images p)
-  sound_gone images p sound = record {
-    home = λ q image on. elim (cases_eq q p) [ inl same ↦ none_some image _ (sym (gone_here images p q same) ∙ on) | inr apart ↦ sound.home q image (sym (gone_else images p q apart) ∙ on) ];
-    low = λ q is. elim (cases_eq q p) [ inl same ↦ absurd (false≢true (sym (ap is_some (gone_here images p q same)) ∙ is)) | inr apart ↦ sound.low q (sym (ap is_some (gone_else images p q apart)) ∙ is) ];
-    form = λ q image on. elim (cases_eq q p) [ inl same ↦ none_some image _ (sym (gone_here images p q same) ∙ on) | inr apart ↦ sound.form q image (sym (gone_else images p q apart) ∙ on) ];
-  }
-
-  pub put_back : (old : Images) (page : ℕ) (image now : PageImage) → map.get old page ≡ Some image → now.page ≡ page → now.page ≡ image.page → IsUpdated catalog to image now
-      → UpdatesPage catalog to page old (map.insert (map.remove old page) now.page now)
-  put_back old page image now on at same updated = record {
+  pub changed_here : (old : Images) (page : ℕ) (image now : PageImage) → map.get old page ≡ Some image → now.page ≡ image.page → IsUpdated catalog to image now → UpdatesPage catalog to page old (map.insert old page now)
+  changed_here old page image now on same updated = record {
     here = λ other there. (
         let e : image ≡ other = same_some image other (sym on ∙ there) in
-        (now, get_here (map.remove old page) now.page page now (sym at), same ∙ ap (λ (i : PageImage). i.page) e, subst (λ i. IsUpdated catalog to i now) e updated));
-    others = λ p apart. get_else (map.remove old page) now.page p now (λ e. apart (e ∙ at)) ∙ gone_else old page p apart;
+        (now, get_here old page page now refl, same ∙ ap (λ (i : PageImage). i.page) e, subst (λ i. IsUpdated catalog to i now) e updated));
+    others = λ p apart. get_else old page p now apart;
   }
 
   -- the images of the pages below a number are updated

@@ -32,9 +32,13 @@ AreOnBlocks base blocks words list = (a : ℕ) → Contains list a → (is_addre
 abbrev pub number_of : ℕ → List ℕ → List ℕ → ℕ → ℕ
 number_of base blocks numbers a = slice_index numbers (slot_of base blocks a)
 
--- the number of each member of a list is its place there
-abbrev pub AreNumbered : ℕ → List ℕ → List ℕ → List ℕ → Type 0
-AreNumbered base blocks numbers list = (i : ℕ) → i < length list → number_of base blocks numbers (slice_index list i) ≡ i
+-- the members of a list are numbered one after another from a number on
+abbrev pub AreNumbered : ℕ → List ℕ → List ℕ → ℕ → List ℕ → Type 0
+AreNumbered base blocks numbers first list = (i : ℕ) → i < length list → number_of base blocks numbers (slice_index list i) ≡ first + i
+
+-- the members of a list are numbered by their places there, and those of another behind them
+abbrev pub AreBothNumbered : ℕ → List ℕ → List ℕ → List ℕ → List ℕ → Type 0
+AreBothNumbered base blocks numbers list behind = AreNumbered base blocks numbers 0 list × AreNumbered base blocks numbers (length list) behind
 
 -- an object waits at the place of a word
 abbrev pub Waits : ℕ → List ℕ → List Bool → ℕ → Type 0

@@ -2,9 +2,17 @@
 use Rattle.std.specs.Prelude.{ℕ, ◌≡◌, ◌≢◌, ◌⊎◌, ◌+◌, ◌<◌, true, List, Some, slice_index}
 use Rattle.std.specs.FinMap as map
 use Rattle.pm3_types.specs.Fields.{Fields}
+use Rattle.pm3_types.specs.declared.type_map.Tail.{Tail}
+use Rattle.pm3_types.specs.declared.type_map.Tail.TheVariants.{Empty, Refs, Bytes}
 use Rattle.pm3_types.specs.Layout.{Sheet, PageImage, word_in, begins_at}
 use Rattle.pm3_types.specs.PageForm.{IsReferenceIn, map_at, tail_at}
 use Rattle.pm3_page.specs.PageMap.{Images}
+
+-- the references of a tail of this length
+abbrev pub tail_references : Tail → ℕ → ℕ
+tail_references Empty len = 0
+tail_references Refs len = len
+tail_references Bytes len = 0
 
 -- the object at a word of a sheet has this word in a reference place
 pub record RefersIn (catalog : List Fields) (sheet : Sheet) (s b : ℕ) : Type 0 where

@@ -1,7 +1,7 @@
 -- New addresses, by lists of the old and the new ones.
 use Rattle.std.specs.Prelude.{ℕ, ◌≡◌, ◌++◌, List, length}
 use Rattle.pm3_types.specs.PassMoves.{IsRising, paired, moved_by}
-use Rattle.pm3_copy.specs.Blocks.{AreNumbered}
+use Rattle.pm3_copy.specs.Blocks.{AreBothNumbered}
 use Rattle.pm3_copy.specs.declared.tables.Tables.{Tables}
 
 -- the new address of what is at this one
@@ -15,7 +15,6 @@ follows t w = moved_by (paired t.promoted.olds.items t.promoted.news.items ++ pa
 pub record AreTables (base : ℕ) (t : Tables) : Type 0 where
   pub promoted : IsRising t.promoted.olds.items
   pub kept : IsRising t.kept.olds.items
-  pub promoted_numbered : AreNumbered base t.index.blocks.by_page.items t.index.numbers.items t.promoted.olds.items
-  pub kept_numbered : AreNumbered base t.index.blocks.by_page.items t.index.numbers.items t.kept.olds.items
+  pub numbered : AreBothNumbered base t.index.blocks.by_page.items t.index.numbers.items t.promoted.olds.items t.kept.olds.items
   pub promoted_whole : length t.promoted.news.items ≡ length t.promoted.olds.items
   pub kept_whole : length t.kept.news.items ≡ length t.kept.olds.items

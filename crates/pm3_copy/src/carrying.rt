@@ -10,7 +10,7 @@ ghost use Rattle.pm3_types.specs.Shown as shown;
 ghost use Rattle.pm3_page.specs.PageMap.{IsAtHome};
 ghost use Rattle.pm3_page.specs.PageSheets.{AreSoundPages, sheets_of};
 ghost use Rattle.pm3_copy.specs.CarriedOut.{IsCarriedOut};
-ghost use Rattle.pm3_copy.specs.Blocks.{AreNumbered};
+ghost use Rattle.pm3_copy.specs.Blocks.{AreBothNumbered};
 ghost use Rattle.pm3_copy.specs.Fresh.{AreBlank, AreLeast, AreNext};
 ghost use Rattle.pm3_copy.specs.Moving.{AreMoved};
 ghost use Rattle.pm3_copy.specs.Planning.{IsPlan};
@@ -53,7 +53,7 @@ fn move_both(
 ) -> Tables
     requires volatile { AreSoundPages catalog.now BASE 16384 volatile.now.images }
     requires promoted { All (IsObjectOf BASE volatile.now.images) promoted }
-    requires numbered { AreNumbered BASE index.blocks.by_page.items index.numbers.items promoted × AreNumbered BASE index.blocks.by_page.items index.numbers.items kept }
+    requires numbered { AreBothNumbered BASE index.blocks.by_page.items index.numbers.items promoted kept }
     requires kept { All (IsObjectOf BASE volatile.now.images) kept }
     requires promoted_rise { IsRising promoted }
     requires kept_rise { IsRising kept }

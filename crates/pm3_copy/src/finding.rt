@@ -12,7 +12,7 @@ ghost use Rattle.pm3_types.specs.Whole.{IsWhole};
 ghost use Rattle.pm3_copy.specs.Whole.{IsObjectOf};
 
 use crate::finds::Found;
-use crate::objects::{is_reference_place, map_of, size_of};
+use crate::objects::{is_reference_place, map_of, reference_places};
 use pm3_page::{Addr, BASE, Image, PageNo, PageSet, Pages};
 use pm3_types::{Catalog, TypeMap};
 
@@ -29,7 +29,7 @@ pub(crate) fn find_referred(catalog: &Catalog, image: &Image, at: Addr, found: &
 {
     let map = map_of(catalog, image, at);
     let tail = image.tail_len(at);
-    for place in 0..size_of(catalog, image, at) - 2 {
+    for place in 0..reference_places(map, tail) {
         find_at_place(map, tail, image, at, place, found);
     }
 }

@@ -68,8 +68,8 @@ fn is_free(found: &Found, pinned: &PageSet, i: usize) -> bool
     requires objects { AreOnPages BASE found.now.objects }
     ensures { IsTrue result ↔ IsFree BASE pinned.now found.now (slice_index found.now.objects i) }
 {
-    if !found.is_found(i) {
+    if pinned.has(page_of(found.object(i))) {
         return false;
     }
-    !pinned.has(page_of(found.object(i)))
+    found.is_found(i)
 }

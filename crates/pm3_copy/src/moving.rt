@@ -95,8 +95,7 @@ fn room_for(fresh: &Pages, spot: Spot, words: u32) -> Spot
     Spot { page, end: 2 }
 }
 
-/// Copies the object at `at` behind the last object of a page, and answers the new address. The image is taken out while it is
-/// changed, and its room is used for it again.
+/// Copies the object at `at` behind the last object of a page, and answers the new address.
 fn copy_to(catalog: &Catalog, volatile: &Pages, at: Addr, page: PageNo, fresh: &mut Pages) -> Addr
     requires volatile { AreSoundPages catalog.now BASE 16384 volatile.now.images }
     requires object { IsObjectOf BASE volatile.now.images at }
@@ -110,10 +109,8 @@ fn copy_to(catalog: &Catalog, volatile: &Pages, at: Addr, page: PageNo, fresh: &
     let Some(source) = volatile.get(page_of(at)) else {
         unreachable!()
     };
-    let Some(mut target) = fresh.take(page) else {
+    let Some(target) = fresh.get_mut(page) else {
         unreachable!()
     };
-    let to = copy_object(catalog, source, at, &mut target);
-    fresh.put(target);
-    to
+    copy_object(catalog, source, at, target)
 }

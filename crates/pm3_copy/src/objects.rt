@@ -6,6 +6,7 @@ ghost use Rattle.pm3_types.specs.PageForm.{IsReferenceIn, map_at, tail_at};
 ghost use Rattle.pm3_types.specs.PassMoves.{IsListOf};
 ghost use Rattle.pm3_page.specs.PageMap.{IsAtHome};
 ghost use Rattle.pm3_types.specs.Whole.{IsWhole};
+ghost use Rattle.pm3_copy.specs.References.{tail_references};
 ghost use Rattle.pm3_copy.specs.Whole.{IsObjectOf};
 
 use pm3_core::PAGE_BYTES;
@@ -87,6 +88,24 @@ fn words_of_tail(tail: Tail, len: u32) -> u64
         Tail::Empty => 0,
         Tail::Refs => u64::from(len),
         Tail::Bytes => (u64::from(len) + 7) / 8,
+    }
+}
+
+/// How many places of an object with this map and a tail of this length may be those of references: no later one is.
+pub(crate) fn reference_places(map: TypeMap, len: u32) -> u32
+    requires { map.count + tail_references map.tail len ≤ 512 }
+    ensures { result ≡ map.count + tail_references map.tail len }
+{
+    u32::from(map.count) + references_of_tail(map.tail, len)
+}
+
+/// The references of a tail of this length.
+fn references_of_tail(tail: Tail, len: u32) -> u32
+    ensures { result ≡ tail_references tail len }
+{
+    match tail {
+        Tail::Refs => len,
+        Tail::Empty | Tail::Bytes => 0,
     }
 }
 

@@ -1,5 +1,5 @@
 //! A pass is planned.
-ghost use Rattle.std.specs.Prelude.{◌≡◌, ◌↔◌, ◌<◌, ◌^◌, ℕ, List, [], length, true, false, IfOk, OnOk};
+ghost use Rattle.std.specs.Prelude.{◌≡◌, ◌↔◌, ◌+◌, ◌<◌, ◌≤◌, ◌^◌, ℕ, List, [], length, true, false, IfOk, OnOk};
 ghost use Rattle.std.specs.List.{All, Contains};
 ghost use Rattle.std.specs.FinMap as map;
 ghost use Rattle.std.specs.FinSet as set;
@@ -7,7 +7,7 @@ ghost use Rattle.pm3_types.specs.Fields.{Fields};
 ghost use Rattle.pm3_types.specs.PassMoves.{AreMovers, IsListOf, IsRising};
 ghost use Rattle.pm3_types.specs.PassSets.{Promoted, Kept};
 ghost use Rattle.pm3_page.specs.PageSheets.{AreSoundPages};
-ghost use Rattle.pm3_copy.specs.Blocks.{AreNumbered};
+ghost use Rattle.pm3_copy.specs.Blocks.{AreBothNumbered};
 ghost use Rattle.pm3_copy.specs.Planning.{IsPlan};
 ghost use Rattle.pm3_copy.specs.Spreading.{before_of, AreTurned, Frees};
 ghost use Rattle.pm3_copy.specs.Whole.{IsObjectOf};
@@ -40,7 +40,8 @@ pub fn plan(
 ) -> Result<Plan, Memory>
     requires volatile { AreSoundPages catalog.now BASE 16384 volatile.now.images }
     requires written { AreSoundPages catalog.now BASE 16384 written.now.images }
-    ensures { IfOk result (IsPlan catalog.now BASE (before_of volatile.now.images written.now.images pinned.now)) }
+    ensures plan { IfOk result (IsPlan catalog.now BASE (before_of volatile.now.images written.now.images pinned.now)) }
+    ensures few_turned { IfOk result (λ plan. set.len plan.turned ≤ plan.pins) }
 {
     let Moving {
         promoted,
@@ -91,8 +92,7 @@ fn find_moving(
     ensures kept { IfOk result (λ moving. let before = before_of volatile.now.images written.now.images pinned.now in
         AreMovers BASE before (Kept catalog.now BASE before) moving.kept.items) }
     ensures turned { IfOk result (λ moving. AreTurned catalog.now BASE (before_of volatile.now.images written.now.images pinned.now) moving.turned) }
-    ensures numbered { IfOk result (λ moving. AreNumbered BASE moving.index.blocks.by_page.items moving.index.numbers.items moving.promoted.items
-        × AreNumbered BASE moving.index.blocks.by_page.items moving.index.numbers.items moving.kept.items) }
+    ensures numbered { IfOk result (λ moving. AreBothNumbered BASE moving.index.blocks.by_page.items moving.index.numbers.items moving.promoted.items moving.kept.items) }
 {
     let mut found = none_found(alloc, volatile)?;
     let turned = promote(alloc, catalog, volatile, written, pinned, &mut found)?;
@@ -120,20 +120,19 @@ fn none_found(alloc: Global, images: &Pages) -> Result<Found, Memory>
     Ok(found)
 }
 
-/// The index of the objects that move, by their places in both lists.
+/// The index of the objects that move, by their places in both lists, one behind the other.
 fn index_of(alloc: Global, found: Found, promoted: &[Addr], kept: &[Addr]) -> Result<Index, Memory>
     requires promoted { All (Contains found.objects) promoted.now }
     requires kept { All (Contains found.objects) kept.now }
     requires promoted_rise { IsRising promoted.now }
     requires kept_rise { IsRising kept.now }
     requires apart { (a : ℕ) → Contains promoted.now a → Contains kept.now a → ⊥ }
-    requires few { (length promoted.now < 2 ^ 32) × (length kept.now < 2 ^ 32) }
-    ensures promoted { IfOk result (λ index. AreNumbered BASE index.blocks.by_page.items index.numbers.items promoted.now) }
-    ensures kept { IfOk result (λ index. AreNumbered BASE index.blocks.by_page.items index.numbers.items kept.now) }
+    requires few { length promoted.now + length kept.now < 2 ^ 32 }
+    ensures { IfOk result (λ index. AreBothNumbered BASE index.blocks.by_page.items index.numbers.items promoted.now kept.now) }
 {
     let mut index = Index::over(alloc, found.into_blocks())?;
-    index.number(promoted);
-    index.number(kept);
+    index.number(0, promoted);
+    index.number(promoted.len(), kept);
     Ok(index)
 }
 

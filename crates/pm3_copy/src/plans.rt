@@ -24,7 +24,7 @@ pub struct Plan {
 
 impl Model for Plan {
     ghost use Rattle.pm3_core.specs.declared.naming.TheConstants.{BASE};
-    ghost use Rattle.pm3_copy.specs.Blocks.{AreNumbered};
+    ghost use Rattle.pm3_copy.specs.Blocks.{AreBothNumbered};
     ghost use Rattle.pm3_copy.specs.Planning.{PlanState, plan_code};
 
     ghost Value = { PlanState };
@@ -42,5 +42,5 @@ impl Model for Plan {
       freed = p.freed;
     } };
 
-    ghost invariant = { λ p. AreNumbered BASE p.index.blocks.by_page.items p.index.numbers.items p.promoted × AreNumbered BASE p.index.blocks.by_page.items p.index.numbers.items p.kept };
+    ghost invariant = { λ p. AreBothNumbered BASE p.index.blocks.by_page.items p.index.numbers.items p.promoted p.kept };
 }

@@ -1,8 +1,7 @@
 //! The new addresses of the objects that move.
-ghost use Rattle.std.specs.Prelude.{◌≡◌, ℕ, length, None, Some, MatchOption};
+ghost use Rattle.std.specs.Prelude.{◌≡◌, ◌<◌, length, slice_index};
 ghost use Rattle.std.specs.List.{Contains};
 ghost use Rattle.pm3_types.specs.PassMoves.{IsRising};
-ghost use Rattle.pm3_copy.specs.Blocks.{AreNumbered};
 ghost use Rattle.pm3_copy.specs.Tables.{new_address, follows, AreTables};
 
 use crate::index::Index;
@@ -15,7 +14,8 @@ pub(crate) struct Table {
     pub(crate) news: Vec<Addr>,
 }
 
-/// The moves to persistent pages, and those to pages of the space, with an index of the old addresses of both.
+/// The moves to persistent pages, and those to pages of the space, with an index of the old addresses: those of the second are
+/// numbered behind those of the first.
 #[derive(Debug, Drop)]
 pub(crate) struct Tables {
     pub(crate) promoted: Table,
@@ -24,17 +24,17 @@ pub(crate) struct Tables {
 }
 
 impl Table {
-    /// The new address of the object at this one, or None exactly where none moves from there.
-    fn find(&self, index: &Index, word: u64) -> Option<Addr>
-        requires numbered { AreNumbered BASE index.now.blocks.by_page.items index.now.numbers.items self.now.olds.items }
+    /// Where what is at this address goes, if the object with this number moves from there, and else the address.
+    fn partner(&self, number: usize, word: u64) -> u64
+        requires numbered { Contains self.now.olds.items word → (number < length self.now.olds.items) × (slice_index self.now.olds.items number ≡ word) }
         requires rising { IsRising self.now.olds.items }
         requires whole { length self.now.news.items ≡ length self.now.olds.items }
-        ensures { MatchOption result (Contains self.now.olds.items word → ⊥) (λ new. Contains self.now.olds.items word × (new ≡ new_address self.now.olds.items self.now.news.items word)) }
+        ensures { result ≡ new_address self.now.olds.items self.now.news.items word }
     {
-        match index.find(&self.olds, word) {
-            Some(i) => Some(self.news[i]),
-            None => None,
+        if number < self.olds.len() && self.olds[number] == word {
+            return self.news[number];
         }
+        word
     }
 }
 
@@ -44,9 +44,11 @@ impl Tables {
         requires { AreTables BASE self.now }
         ensures { result ≡ follows self.now word }
     {
-        match self.promoted.find(&self.index, word) {
-            Some(new) => new,
-            None => self.kept.find(&self.index, word).unwrap_or(word),
+        let number = self.index.number_of(word);
+        let first = self.promoted.olds.len();
+        if number < first {
+            return self.promoted.partner(number, word);
         }
+        self.kept.partner(number - first, word)
     }
 }

@@ -10,7 +10,7 @@ use crate::updating::update;
 use pm3_page::{BASE, PageNo, Pages};
 use pm3_types::Catalog;
 
-/// Lets the references of all images follow. An image is taken out while it is changed, and its room is used for it again.
+/// Lets the references of all images follow.
 pub(crate) fn update_all(catalog: &Catalog, pages: &mut Pages, tables: &Tables)
     requires tables { AreTables BASE tables.now }
     requires keeps { KeepsReferences BASE (follows tables.now) }
@@ -36,9 +36,8 @@ fn update_page(catalog: &Catalog, pages: &mut Pages, page: PageNo, tables: &Tabl
     ensures sound { AreSoundPages catalog.now BASE 16384 pages.new.images }
     ensures spare { pages.new.spare ≡ pages.old.spare }
 {
-    let Some(mut image) = pages.take(page) else {
+    let Some(image) = pages.get_mut(page) else {
         unreachable!()
     };
-    update(catalog, &mut image, tables);
-    pages.put(image);
+    update(catalog, image, tables);
 }

@@ -6,7 +6,7 @@ ghost use Rattle.pm3_copy.specs.Renaming.{IsRenamed, IsPlaceIn, IsPlaceOf, IsRoo
 ghost use Rattle.pm3_copy.specs.Tables.{follows, AreTables};
 ghost use Rattle.pm3_types.specs.Whole.{IsWhole};
 
-use crate::objects::{is_reference_place, map_of, size_of};
+use crate::objects::{is_reference_place, map_of, reference_places};
 use crate::tables::Tables;
 use pm3_page::{Addr, BASE, Image, PageNo};
 use pm3_types::{Catalog, TypeMap};
@@ -73,7 +73,7 @@ fn update_object(catalog: &Catalog, image: &mut Image, at: Addr, tables: &Tables
 {
     let map = map_of(catalog, image, at);
     let tail = image.tail_len(at);
-    for place in 0..size_of(catalog, image, at) - 2 {
+    for place in 0..reference_places(map, tail) {
         update_place(map, tail, image, at, place, tables);
     }
 }

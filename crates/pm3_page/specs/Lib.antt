@@ -14,3 +14,4 @@ pub mod HomeLaws
 pub mod Faults
 pub mod Head
 pub mod PageSheets
+pub mod Overwriting

@@ -75,15 +75,24 @@ impl Bits {
         ensures next { IsNext (has_bit self.now.words.items) start result }
         ensures within { IfSome result (λ page. page < 16384) }
     {
-        let mut low = start % 64;
-        for i in (start / 64) as usize..self.words.len() {
-            if let Some(bit) = lowest(self.words[i], low) {
-                return Some(64 * i as u32 + bit);
-            }
-            low = 0;
-        }
-        None
+        next_bit(&self.words, start)
     }
+}
+
+/// The least number from `start` on whose bit is set in these words.
+pub(crate) fn next_bit(words: &[u64], start: u32) -> Option<u32>
+    requires { length words.now ≤ 256 }
+    ensures next { IsNext (has_bit words.now) start result }
+    ensures within { IfSome result (λ number. number < 64 * length words.now) }
+{
+    let mut low = start % 64;
+    for i in (start / 64) as usize..words.len() {
+        if let Some(bit) = lowest(words[i], low) {
+            return Some(64 * i as u32 + bit);
+        }
+        low = 0;
+    }
+    None
 }
 
 /// The lowest bit of a word from `low` on that is set.

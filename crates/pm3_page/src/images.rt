@@ -1,6 +1,7 @@
 //! The image of a page: its words, and where objects begin.
 ghost use Rattle.std.specs.Prelude.{◌≡◌, ◌≢◌, ◌↔◌, ◌+◌, ◌^◌, ◌<◌, ◌≤◌, false, true, IfOk, IsNone, length, replicate, slice_get, slice_index, IsTrue};
 ghost use Rattle.pm3_types.specs.Layout.{blank_sheet, begins_at, head_at, is_forwarded, type_in, tail_in, word_in, with_word_at, IsNextObject, address, forwarding, forwarded_to, end_of, size_by, head_of, has_tail, placed_on, zeroed};
+ghost use Rattle.pm3_page.specs.Overwriting.{copied_on, overwritten, words_at};
 
 use crate::addresses::{
     Addr, PageNo, ROOTS_PAGE, address_of, is_word_of, word_within, words_before,
@@ -21,8 +22,11 @@ pub(crate) const PAGE_WORDS: usize = 512;
 /// The image of a page: its 512 words, with references as addresses, and the places where objects begin.
 #[derive(Debug, Drop)]
 pub struct Image {
+    /// The number of the page.
     pub(crate) page: PageNo,
+    /// Of each word, whether an object begins there.
     pub(crate) starts: StartBits,
+    /// The 512 words.
     pub(crate) words: Vec<u64>,
 }
 
@@ -199,6 +203,24 @@ impl Image {
         address_of(self.page, end)
     }
 
+    /// Makes a copy of an object of so many words, that at `at` of another image, behind the last one, and answers its address.
+    pub fn place_copy(&mut self, source: &Image, at: Addr, size: u32) -> Addr
+        requires object { begins_at BASE source.now at ≡ true }
+        requires some { 2 ≤ size }
+        requires whole { word_in BASE at + size ≤ 512 }
+        requires fits { (self.old.page ≢ 2) × (end_of self.old.sheet + size ≤ 512) }
+        ensures at { result ≡ address BASE self.old.page (end_of self.old.sheet) }
+        ensures placed { self.new ≡ copied_on self.old size (words_at source.now.sheet (word_in BASE at) size) }
+    {
+        let from = word_within(at);
+        let size = size as usize;
+        let end = end_part(self.words[0]) as usize;
+        write_words(&mut self.words, end, &source.words[from..from + size]);
+        self.words[0] = first_word(self.page, (end + size) as u32);
+        self.starts.add(end);
+        address_of(self.page, end)
+    }
+
     /// The address in a root slot, or 0 for nil.
     pub fn root(&self, slot: u32) -> u64
         requires roots { self.now.page ≡ 2 }
@@ -216,6 +238,15 @@ impl Image {
     {
         self.words[2 + slot as usize] = at;
     }
+}
+
+/// Writes these words over those from a place on.
+fn write_words(words: &mut [u64], from: usize, new: &[u64])
+    requires within { from + length new.now ≤ length words.old }
+    ensures written { words.new ≡ overwritten words.old from new.now }
+    ensures same { length words.new ≡ length words.old }
+{
+    words[from..from + new.len()].copy_from_slice(new);
 }
 
 /// Writes 0 into the words from one up to another.

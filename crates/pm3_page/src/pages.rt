@@ -15,8 +15,11 @@ use std::marker::Model;
 /// Images of pages, each under the number of its page, and room for further ones.
 #[derive(Debug, Drop)]
 pub struct Pages {
+    /// Where the image of each page is in the list.
     slots: Slots,
+    /// The images, in no order.
     images: Vec<Image>,
+    /// How many images more there is room for.
     spare: usize,
 }
 

@@ -16,8 +16,11 @@ const ABSENT: u16 = 65535;
 /// The index of each page's image, and the page of each index.
 #[derive(Debug, Drop)]
 pub(crate) struct Slots {
+    /// By page, the index of its image, or 65,535 where it has none.
     by_page: Vec<u16>,
+    /// By index, the page.
     homes: Vec<u16>,
+    /// The pages that have an image.
     held: Bits,
 }
 

@@ -2,6 +2,7 @@
 ghost use Rattle.std.specs.Prelude.{◌≡◌, ◌↔◌, IsTrue, ◌<◌, ◌≤◌, false, true, length, replicate, slice_index_or, slice_set};
 ghost use Rattle.pm3_page.specs.StartBits.{bits_in, IsFirstFrom};
 
+use crate::bits::next_bit;
 use std::marker::Model;
 
 /// The words of a page at which objects begin.
@@ -68,12 +69,10 @@ impl StartBits {
         requires { from ≤ 512 }
         ensures { IsFirstFrom self.now from result }
     {
-        for word in from..512 {
-            if self.has(word) {
-                return Some(word);
-            }
+        match next_bit(&self.bits, from as u32) {
+            Some(word) => Some(word as usize),
+            None => None,
         }
-        None
     }
 
     /// Whether objects begin at the same words.

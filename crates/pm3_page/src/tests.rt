@@ -197,6 +197,34 @@ fn objects_are_placed_one_after_another(rt: HostRuntime) -> Result<(), Fail> {
     Ok(())
 }
 
+/// Copies an object of so many words to another page where it fits there.
+#[tactic(auto, unfolding(pm3_types::specs::Layout::word_in, pm3_types::specs::Layout::is_address))]
+fn duplicate(target: &mut Image, source: &Image, at: Addr, size: u32) -> Option<Addr> {
+    if at < BASE || (at - BASE) % 4096 / 8 + u64::from(size) > 512 || !source.is_object(at) {
+        return None;
+    }
+    if size < 2 || !target.fits(size) {
+        return None;
+    }
+    Some(target.place_copy(source, at, size))
+}
+
+#[test]
+fn an_object_is_copied_as_it_is(rt: HostRuntime) -> Result<(), Fail> {
+    let catalog = types(rt.alloc())?;
+    let mut source = Image::blank(rt.alloc(), 3)?;
+    let first = BASE + 4096 * 3 + 16;
+    assert_eq!(rt; make(&mut source, &catalog, PLAIN, 0, 1), Some(first));
+    assert_eq!(rt; make(&mut source, &catalog, PART, 2, 9), Some(first + 40));
+    let mut target = Image::blank(rt.alloc(), 5)?;
+    let to = BASE + 4096 * 5 + 16;
+    assert_eq!(rt; duplicate(&mut target, &source, first + 40, 6), Some(to));
+    assert_eq!(rt; header_of(&target, to), Some((PART, 2, 9)));
+    assert_eq!(rt; target.words[0], 5 + 8 * 4_294_967_296);
+    assert_eq!(rt; target.next(to), None);
+    Ok(())
+}
+
 #[test]
 fn a_free_page_has_no_objects(rt: HostRuntime) -> Result<(), Fail> {
     let catalog = types(rt.alloc())?;

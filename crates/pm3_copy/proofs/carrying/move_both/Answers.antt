@@ -3,7 +3,7 @@ use Rattle.std.proofs.lemmas.List.{append-nil}
 use Rattle.pm3_core.specs.declared.naming.TheConstants.{BASE}
 use Rattle.pm3_types.specs.PassMoves.{IsRising, paired, moved_by}
 use Rattle.pm3_copy.specs.Fresh.{AreNext}
-use Rattle.pm3_copy.specs.Blocks.{AreNumbered}
+use Rattle.pm3_copy.specs.Blocks.{AreBothNumbered}
 use Rattle.pm3_copy.specs.Moving.{AreMoved}
 use Rattle.pm3_copy.proofs.BothMoves.{both_moved}
 use Rattle.pm3_copy.proofs.carrying.move_both.Goals as goal
@@ -31,11 +31,11 @@ pub returns-clause-tables : goal.returns-clause-tables
 returns-clause-tables c =
     let first = c.move_all-table.ensures in
     let second = c.move_all-others.ensures in
+    let Are : List ℕ → List ℕ → Type 0 = AreBothNumbered BASE c.args.index.blocks.by_page.items c.args.index.numbers.items in
     record {
       promoted = subst IsRising (sym first.olds) c.requires.promoted_rise;
       kept = subst IsRising (sym second.olds) c.requires.kept_rise;
-      promoted_numbered = subst (AreNumbered BASE c.args.index.blocks.by_page.items c.args.index.numbers.items) (sym first.olds) c.requires.numbered.0;
-      kept_numbered = subst (AreNumbered BASE c.args.index.blocks.by_page.items c.args.index.numbers.items) (sym second.olds) c.requires.numbered.1;
+      numbered = subst (Are c.move_all-table.result.table.olds.items) (sym second.olds) (subst (λ olds. Are olds c.args.kept) (sym first.olds) c.requires.numbered);
       promoted_whole = first.all ∙ sym (ap (λ (xs : List ℕ). length xs) first.olds);
       kept_whole = second.all ∙ sym (ap (λ (xs : List ℕ). length xs) second.olds);
     }

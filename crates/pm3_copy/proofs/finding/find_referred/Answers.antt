@@ -1,8 +1,19 @@
-use Rattle.std.proofs.Common.{◌≡◌, ◌+◌, Some, arith}
+use Rattle.std.proofs.Common.{Some, arith}
 use Rattle.pm3_core.specs.declared.naming.TheConstants.{BASE}
-use Rattle.pm3_types.specs.Layout.{word_in, size_at}
+use Rattle.pm3_types.specs.Layout.{word_in}
+use Rattle.pm3_copy.proofs.ReferencePlaces.{places_on_page, every_low}
 use Rattle.pm3_copy.proofs.References.{places_more, places_all}
 use Rattle.pm3_copy.proofs.finding.find_referred.Goals as goal
+
+pub reference_places-place-end-requires : goal.reference_places-place-end-requires
+reference_places-place-end-requires c =
+    let few = places_on_page c.args.catalog.now c.args.image.now.sheet (word_in BASE c.args.at) c.map_of-map.result c.tail_len-tail.result c.map_of-map.ensures c.tail_len-tail.ensures c.requires.whole in
+    omega (arith, few)
+
+pub find_at_place-requires-clause-within : goal.find_at_place-requires-clause-within
+find_at_place-requires-clause-within c =
+    let few = places_on_page c.args.catalog.now c.args.image.now.sheet (word_in BASE c.args.at) c.map_of-map.result c.tail_len-tail.result c.map_of-map.ensures c.tail_len-tail.ensures c.requires.whole in
+    omega (arith, few, c.reference_places-place-end.ensures, c.loop-place-test.true)
 
 pub loop-place-preserved : goal.loop-place-preserved
 loop-place-preserved c =
@@ -11,5 +22,8 @@ loop-place-preserved c =
 
 pub returns : goal.returns
 returns c =
-    let end : c.loop-place.place + 2 ≡ size_at c.args.catalog.now c.args.image.now.sheet (word_in BASE c.args.at) = omega arith in
-    places_all c.args.catalog.now c.args.image.now.sheet (word_in BASE c.args.at) c.loop-place.place c.args.found.now c.loop-place.found end c.loop-place.invariant
+    places_all c.args.catalog.now c.args.image.now.sheet (word_in BASE c.args.at) c.loop-place.place c.args.found.now c.loop-place.found
+    (λ k item.
+    let low = every_low c.args.catalog.now c.args.image.now.sheet (word_in BASE c.args.at) c.map_of-map.result c.tail_len-tail.result c.map_of-map.ensures c.tail_len-tail.ensures k item in
+    omega (arith, low, c.reference_places-place-end.ensures, c.loop-place-test.false))
+    c.loop-place.invariant

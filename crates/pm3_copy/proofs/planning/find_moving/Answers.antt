@@ -2,7 +2,7 @@ use Rattle.std.proofs.Common.{◌∙◌, ℕ, List, length, ap, sym, subst, arit
 use Rattle.std.specs.List.{All, Contains}
 use Rattle.pm3_core.specs.declared.naming.TheConstants.{BASE}
 use Rattle.pm3_types.specs.PassMoves.{IsRising, IsListOf}
-use Rattle.pm3_copy.specs.Blocks.{AreNumbered}
+use Rattle.pm3_copy.specs.Blocks.{AreBothNumbered}
 use Rattle.pm3_copy.specs.Spreading.{Picks, before_of}
 use Rattle.pm3_copy.proofs.PlanParts.{few, on_pages, promoted_movers, kept_movers, promoted_objects, kept_objects}
 use Rattle.pm3_copy.proofs.Stayers.{kept_apart}
@@ -71,7 +71,7 @@ index_of-requires-clause-few c =
     (kept_objects c.args.catalog.now BASE c.args.volatile.now.images c.args.written.now.images c.args.pinned.now c.requires.volatile c.in_ok-kept.kept.items kept) in
     let a = ap (λ (xs : List ℕ). length xs) c.deref-2.ensures.value in
     let b = ap (λ (xs : List ℕ). length xs) c.deref-3.ensures.value in
-    (omega (arith, first, a), omega (arith, second, b))
+    omega (arith, first, second, a, b)
 
 pub index_of-requires-clause-promoted_rise : goal.index_of-requires-clause-promoted_rise
 index_of-requires-clause-promoted_rise c = subst IsRising (sym c.deref-2.ensures.value) c.in_ok-promoted.ensures.picked.rising
@@ -80,7 +80,6 @@ pub index_of-requires-clause-kept_rise : goal.index_of-requires-clause-kept_rise
 index_of-requires-clause-kept_rise c = subst IsRising (sym c.deref-3.ensures.value) c.in_ok-kept.ensures.picked.rising
 
 pub returns-clause-numbered : goal.returns-clause-numbered
-returns-clause-numbered c = (
-  subst (AreNumbered BASE c.in_ok-index.index.blocks.by_page.items c.in_ok-index.index.numbers.items) c.deref-2.ensures.value c.in_ok-index.ensures.promoted,
-  subst (AreNumbered BASE c.in_ok-index.index.blocks.by_page.items c.in_ok-index.index.numbers.items) c.deref-3.ensures.value c.in_ok-index.ensures.kept,
-)
+returns-clause-numbered c =
+    let Are : List ℕ → List ℕ → Type 0 = AreBothNumbered BASE c.in_ok-index.index.blocks.by_page.items c.in_ok-index.index.numbers.items in
+    subst (Are c.in_ok-promoted.promoted.items) c.deref-3.ensures.value (subst (λ first. Are first c.deref-3.result.now) c.deref-2.ensures.value c.in_ok-index.ensures)

@@ -1,7 +1,7 @@
-use Rattle.std.proofs.Common.{◌∙◌, get_or, ap, sym, subst}
+use Rattle.std.proofs.Common.{◌≡◌, ◌<◌, ◌+◌, ◌∙◌, ℕ, length, get_or, ap, sym, subst}
 use Rattle.std.proofs.lemmas.List.Elements.{Contains-get_or}
 use Rattle.pm3_core.specs.declared.naming.TheConstants.{BASE}
-use Rattle.pm3_copy.specs.Blocks.{AreBlocks, AreOnBlocks}
+use Rattle.pm3_copy.specs.Blocks.{AreBlocks, AreOnBlocks, number_of}
 use Rattle.pm3_copy.specs.declared.blocks.Blocks.{Blocks}
 use Rattle.pm3_copy.proofs.Numbered.{on_blocks_of}
 use Rattle.pm3_copy.proofs.planning.index_of.Goals as goal
@@ -28,10 +28,13 @@ number-requires-2-clause-on_blocks c =
     subst (λ (r : Blocks). AreOnBlocks BASE r.by_page.items r.words c.args.kept.now) (sym (c.number.ensures.blocks ∙ c.in_ok-index.ensures.blocks))
     (on_blocks_of BASE c.into_blocks.result.by_page.items c.into_blocks.result.words c.args.found.objects c.args.kept.now c.into_blocks.ensures.on_blocks c.requires.kept)
 
-pub returns-clause-promoted : goal.returns-clause-promoted
-returns-clause-promoted c i low =
-    let a = get_or c.args.promoted.now i 0 in
-    let there = Contains-get_or c.args.promoted.now i 0 low in
-    let on = subst (λ (r : Blocks). AreOnBlocks BASE r.by_page.items r.words c.args.promoted.now) (sym (c.number.ensures.blocks ∙ c.in_ok-index.ensures.blocks))
-    (on_blocks_of BASE c.into_blocks.result.by_page.items c.into_blocks.result.words c.args.found.objects c.args.promoted.now c.into_blocks.ensures.on_blocks c.requires.promoted) a there in
-    c.number-2.ensures.others a on.0 on.1 (λ other. c.requires.apart a there other) ∙ c.number.ensures.numbered i low
+pub returns : goal.returns
+returns c = (first, c.number-2.ensures.numbered)
+  where
+    first : (i : ℕ) → i < length c.args.promoted.now → number_of BASE c.number-2.new.self.blocks.by_page.items c.number-2.new.self.numbers.items (get_or c.args.promoted.now i 0) ≡ 0 + i
+    first i low =
+        let a = get_or c.args.promoted.now i 0 in
+        let there = Contains-get_or c.args.promoted.now i 0 low in
+        let on = subst (λ (r : Blocks). AreOnBlocks BASE r.by_page.items r.words c.args.promoted.now) (sym (c.number.ensures.blocks ∙ c.in_ok-index.ensures.blocks))
+        (on_blocks_of BASE c.into_blocks.result.by_page.items c.into_blocks.result.words c.args.found.objects c.args.promoted.now c.into_blocks.ensures.on_blocks c.requires.promoted) a there in
+        c.number-2.ensures.others a on.0 on.1 (λ other. c.requires.apart a there other) ∙ c.number.ensures.numbered i low

@@ -9,6 +9,7 @@ use Rattle.pm3_copy.specs.Spreading.{before_of}
 use Rattle.pm3_copy.specs.Whole.{IsObjectOf}
 use Rattle.pm3_copy.proofs.PlanParts.{few, sizes_within, promoted_objects, kept_objects, all_of, same_pages}
 use Rattle.pm3_copy.proofs.Settling.{wanted_bound}
+use Rattle.pm3_copy.proofs.Subsets.{no_more}
 use Rattle.pm3_copy.proofs.planning.plan.Goals as goal
 
 pub pages_for-persistent-requires-clause-objects : goal.pages_for-persistent-requires-clause-objects
@@ -47,8 +48,8 @@ overflow_cast-moved c =
     let b : c.len-2.result ≡ length c.in_ok-promoted.field-0.kept.items = search rules in
     omega (arith, first, second, a, b)
 
-pub returns : goal.returns
-returns c =
+pub returns-clause-plan : goal.returns-clause-plan
+returns-clause-plan c =
     let wanted = c.pages_for-persistent.ensures ∙ ap (λ (xs : List ℕ). pages_wanted (sizes c.args.catalog.now BASE (sheets_of c.args.volatile.now.images) xs)) c.deref.ensures.value in
     let staying = c.pages_for-staying.ensures ∙ ap (λ (xs : List ℕ). pages_wanted (sizes c.args.catalog.now BASE (sheets_of c.args.volatile.now.images) xs)) c.deref-2.ensures.value in
     let a : c.len.result ≡ length c.in_ok-promoted.field-0.promoted.items = search rules in
@@ -83,3 +84,8 @@ returns c =
       moved = omega (arith, a, b);
     } in
     subst (λ first. Is first c.in_ok-left.left) (sym c.in_ok-going.ensures) (subst (Is c.in_ok-promoted.field-0.promoted.items) (sym c.in_ok-left.ensures) made)
+
+pub returns-clause-few_turned : goal.returns-clause-few_turned
+returns-clause-few_turned c =
+    let fewer = no_more c.in_ok-promoted.field-0.turned c.args.pinned.now (λ p turns. ((c.in_ok-promoted.ensures.turned p).0 turns).0) in
+    omega (arith, fewer, c.len-3.ensures.count)

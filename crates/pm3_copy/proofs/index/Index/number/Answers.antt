@@ -25,8 +25,8 @@ loop-i-preserved c =
     record {
       blocks = c.loop-i.invariant.blocks;
       numbers =
-          subst (λ (s : ℕ). AreNumberedBelow BASE c.args.self.now.blocks.by_page.items c.args.list.now (c.loop-i.i + 1) c.args.self.now.numbers.items (set c.loop-i.self.numbers.items s c.loop-i.i)) (sym slot)
-          (below_more BASE c.args.self.now.blocks.by_page.items c.args.list.now c.args.self.now.numbers.items c.args.self.now.blocks.words c.requires.long c.requires.blocks c.requires.on_blocks c.requires.rising
+          subst (λ (s : ℕ). AreNumberedBelow BASE c.args.self.now.blocks.by_page.items c.args.first c.args.list.now (c.loop-i.i + 1) c.args.self.now.numbers.items (set c.loop-i.self.numbers.items s (c.args.first + c.loop-i.i))) (sym slot)
+          (below_more BASE c.args.self.now.blocks.by_page.items c.args.first c.args.list.now c.args.self.now.numbers.items c.args.self.now.blocks.words c.requires.long c.requires.blocks c.requires.on_blocks c.requires.rising
           c.loop-i.i c.loop-i.self.numbers.items low c.loop-i.invariant.numbers);
     }
 
@@ -38,5 +38,5 @@ returns-clause-numbered c i low =
 pub returns-clause-others : goal.returns-clause-others
 returns-clause-others c a address has never =
     ap (λ (blocks : Blocks). number_of BASE blocks.by_page.items c.loop-i.self.numbers.items a) c.loop-i.invariant.blocks
-    ∙ below_others BASE c.args.self.now.blocks.by_page.items c.args.list.now c.args.self.now.numbers.items c.args.self.now.blocks.words c.requires.long c.requires.blocks c.requires.on_blocks c.requires.rising
+    ∙ below_others BASE c.args.self.now.blocks.by_page.items c.args.first c.args.list.now c.args.self.now.numbers.items c.args.self.now.blocks.words c.requires.long c.requires.blocks c.requires.on_blocks c.requires.rising
     c.loop-i.i c.loop-i.self.numbers.items a (let end : c.loop-i.i ≤ length c.args.list.now = search rules in end) c.loop-i.invariant.numbers address has never

@@ -6,5 +6,5 @@ use Rattle.pm3_copy.proofs.index.Index.number.Given as goal
 abbrev pub invariant-loop-i : goal.invariant-loop-i
 invariant-loop-i l = record {
   blocks : l.self.blocks ≡ l.fn.self.blocks;
-  numbers : AreNumberedBelow BASE l.fn.self.blocks.by_page.items l.list l.i l.fn.self.numbers.items l.self.numbers.items;
+  numbers : AreNumberedBelow BASE l.fn.self.blocks.by_page.items l.first l.list l.i l.fn.self.numbers.items l.self.numbers.items;
 }

@@ -1,22 +1,28 @@
-use Rattle.std.proofs.Common.{◌≡◌, ◌∙◌, ℕ, List, Option, Some, None, unwrap_or, sym}
-use Rattle.std.specs.List.{Contains}
-use Rattle.std.specs.Option.{MatchOption}
-use Rattle.pm3_types.specs.PassMoves.{paired}
-use Rattle.pm3_copy.specs.Tables.{new_address}
-use Rattle.pm3_copy.proofs.Following.{first_partner, passed_over, stays}
+use Rattle.std.proofs.Common.{◌≡◌, ◌-◌, ◌∙◌, length, get_or, ap, arith, rules}
+use Rattle.pm3_core.specs.declared.naming.TheConstants.{BASE}
+use Rattle.pm3_copy.proofs.BothMoves.{among}
+use Rattle.pm3_copy.proofs.Following.{by_first, by_second}
+use Rattle.pm3_copy.proofs.Numbered.{numbered_at}
 use Rattle.pm3_copy.proofs.tables.Tables.follow.Goals as goal
 
-by : (olds news : List ℕ) (w : ℕ) (o : Option ℕ) → MatchOption o (Contains olds w → ⊥) (λ new. Contains olds w × (new ≡ new_address olds news w)) → unwrap_or o w ≡ new_address olds news w
-by olds news w None never = sym (stays olds news w never)
-by olds news w (Some new) is = is.1
+pub returns-then-number-first : goal.returns-then-number-first
+returns-then-number-first c =
+    let first : c.len-first.result ≡ length c.args.self.now.promoted.olds.items = search rules in
+    c.partner.ensures ∙ by_first c.args.self.now.promoted.olds.items c.args.self.now.promoted.news.items c.args.self.now.kept.olds.items c.args.self.now.kept.news.items c.args.word c.requires.promoted_whole
+    (among c.args.self.now.promoted.olds.items c.args.word) (λ there.
+    let number = numbered_at BASE c.args.self.now.index.blocks.by_page.items c.args.self.now.index.numbers.items (length c.args.self.now.promoted.olds.items) c.args.self.now.kept.olds.items c.args.word c.requires.numbered.1 there in
+    omega (arith, number.3, c.number_of-number.ensures, c.if-number-first.true))
 
-pub returns-in-Some : goal.returns-in-Some
-returns-in-Some c =
-    c.in-Some.ensures.1 ∙ sym (first_partner c.args.self.now.promoted.olds.items c.args.self.now.promoted.news.items (paired c.args.self.now.kept.olds.items c.args.self.now.kept.news.items) c.args.word
-    c.requires.promoted_whole c.in-Some.ensures.0)
+pub partner-requires-2-clause-numbered : goal.partner-requires-2-clause-numbered
+partner-requires-2-clause-numbered c there =
+    let first : c.len-first.result ≡ length c.args.self.now.promoted.olds.items = search rules in
+    let number = numbered_at BASE c.args.self.now.index.blocks.by_page.items c.args.self.now.index.numbers.items (length c.args.self.now.promoted.olds.items) c.args.self.now.kept.olds.items c.args.word c.requires.numbered.1 there in
+    let place : c.number_of-number.result - c.len-first.result ≡ number.0 = omega (arith, number.3, c.number_of-number.ensures) in
+    (omega (arith, place, number.1), ap (λ k. get_or c.args.self.now.kept.olds.items k 0) place ∙ number.2)
 
-pub returns-in-None : goal.returns-in-None
-returns-in-None c =
-    c.unwrap_or.ensures ∙ by c.args.self.now.kept.olds.items c.args.self.now.kept.news.items c.args.word c.find-in-None.result c.find-in-None.ensures
-    ∙ sym (passed_over c.args.self.now.promoted.olds.items c.args.self.now.promoted.news.items (paired c.args.self.now.kept.olds.items c.args.self.now.kept.news.items) c.args.word
-    c.requires.promoted_whole c.in-None.ensures)
+pub returns : goal.returns
+returns c =
+    let first : c.len-first.result ≡ length c.args.self.now.promoted.olds.items = search rules in
+    c.partner-2.ensures ∙ by_second c.args.self.now.promoted.olds.items c.args.self.now.promoted.news.items c.args.self.now.kept.olds.items c.args.self.now.kept.news.items c.args.word c.requires.promoted_whole (λ there.
+    let number = numbered_at BASE c.args.self.now.index.blocks.by_page.items c.args.self.now.index.numbers.items 0 c.args.self.now.promoted.olds.items c.args.word c.requires.numbered.0 there in
+    omega (arith, number.1, number.3, c.number_of-number.ensures, c.if-number-first.false))
