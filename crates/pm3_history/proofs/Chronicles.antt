@@ -17,7 +17,7 @@ use Rattle.pm3_history.specs.State.{State, step, entry_after, opening_state, now
 use Rattle.pm3_history.specs.Lawful.{IsLawful, MeetsPass, Tells, book_for, images_of}
 use Rattle.pm3_history.specs.Chronicled.{Chronicled}
 use Rattle.pm3_history.specs.ChronicleLaws.{OpeningsAreChronicled, HistoriesKeep, NothingIsLost, NothingIsVolatile}
-use Rattle.pm3_history.proofs.Laying.{laid_below}
+use Rattle.pm3_history.proofs.Laying.{laid_below, some_none}
 use Rattle.pm3_history.proofs.Persisting.{persistent_reached, all_reached}
 use Rattle.pm3_history.proofs.Plainly.{plain_keeps, no_zero}
 use Rattle.pm3_history.proofs.Passing.{pass_keeps}
@@ -70,6 +70,7 @@ opening_chronicled base file journal g o =
       fits = subst (λ (m : Images). FitsImages o.catalog base o.book m) same o.reached.fits;
       placed = λ a n has. (let P : Images → Type 0 = λ m. is_some (get m (page_in base a)) ≡ true in
           subst P same (reached_on_page o.catalog base o.images a (o.reached.only a n has)));
+      named = λ a n is. absurd (some_none (get empty (page_in base a)) is.sheet is.on (get-empty nat_cmp (page_in base a)));
       owned = λ q. ap is_some (get-empty nat_cmp q) ∙ sym (ap is_some (get-empty nat_cmp q));
       shows = subst (λ (m : Images). PartOf (shown o.catalog base o.book m) (shown o.catalog base o.book o.images)) same (part_of_itself (shown o.catalog base o.book o.images));
       roots = o.reached.roots;

@@ -84,7 +84,7 @@ homes_stand catalog base pages st h q chron are home unwritten =
     ∙ sym (page_same catalog base st chron q (home_unowned catalog base st chron q home))
 
 -- an object on such a page was there before the history
-was_there : (catalog : List Fields) (base pages : ℕ) (st : State) (h : List Done) (a n : ℕ) → Chronicled catalog base st → AreLawful catalog base pages st h
+pub was_there : (catalog : List Fields) (base pages : ℕ) (st : State) (h : List Done) (a n : ℕ) → Chronicled catalog base st → AreLawful catalog base pages st h
     → IsHome base st (page_in base a) → get (now catalog base st h).book a ≡ Some n → get st.book a ≡ Some n
 was_there catalog base pages st [] a n chron are home has = has
 was_there catalog base pages st (d ∷ ds) a n chron are home has =
@@ -121,6 +121,18 @@ module _ (catalog : List Fields) (base : ℕ) (held : Images) (some one other : 
   roots =
       roots_same catalog base some other held fits (λ slot m sheet low on more is. in_other (slice_index sheet.words (2 + slot)) m is)
       ∙ sym (roots_same catalog base some one held fits (λ slot m sheet low on more is. in_one (slice_index sheet.words (2 + slot)) m is))
+
+-- images show the same under another book that has all that the first has, and on their pages no more
+pub shown_alike : (catalog : List Fields) (base : ℕ) (held : Images) (some other : Book) → FitsImages catalog base some held → IsOneToOne other
+    → ((a n : ℕ) → get some a ≡ Some n → get other a ≡ Some n)
+    → ((a n : ℕ) (sheet : Sheet) → get held (page_in base a) ≡ Some sheet → get other a ≡ Some n → get some a ≡ Some n)
+    → shown catalog base other held ≡ shown catalog base some held
+shown_alike catalog base held some other fits one into of =
+    same_part (shown catalog base other held) (shown catalog base some held)
+    (λ n. same_option (get (shown_records catalog base other held) n) (get (shown_records catalog base some held) n)
+    (there catalog base held some other some fits one fits.one into (λ a m is. is) of n)
+    (there catalog base held some some other fits fits.one one (λ a m is. is) into (λ a m sheet on is. is) n))
+    (roots catalog base held some some other fits fits.one one (λ a m is. is) into (λ a m sheet on is. is))
 
 -- images of such pages show the same under the later book
 pub held_shows_on : HeldShowsOn

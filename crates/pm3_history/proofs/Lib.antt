@@ -12,7 +12,10 @@ pub mod Filing
 pub mod Staying
 pub mod Holding
 pub mod Spacing
+pub mod Sparing
 pub mod RunNames
+pub mod Names
+pub mod NamedOn
 -- Lemmas of this crate.
 mod BookOf
 mod Cutting

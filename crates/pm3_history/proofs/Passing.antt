@@ -12,11 +12,12 @@ use Rattle.pm3_types.specs.Shown.{Book, Images, IsKnown, FitsImages, shown, show
 use Rattle.pm3_types.proofs.Books.{shown_from}
 use Rattle.pm3_history.specs.Laid.{laid, without}
 use Rattle.pm3_history.specs.Entry.{Pass, Entry}
-use Rattle.pm3_history.specs.Named.{book_of, next_book, off_pages, promoted}
+use Rattle.pm3_history.specs.Named.{IsNamedOn, book_of, next_book, off_pages, promoted}
 use Rattle.pm3_history.specs.State.{State, step, all_images, owned_by}
 use Rattle.pm3_history.specs.Lawful.{Tells, StayWithin, MayRefer, IsFree, TakesPages, IsPass, book_for, images_of}
 use Rattle.pm3_history.specs.Chronicled.{Chronicled}
 use Rattle.pm3_history.proofs.BookOf.{book_of_on}
+use Rattle.pm3_history.proofs.NamedOn.{book_of_has}
 use Rattle.pm3_history.proofs.Laying.{some_of, some_none, laid_above, laid_below, laid_cases, laid_none, laid_still, without_keeps, without_cases, without_none, off_keeps, off_cases, none_if, there_none}
 use Rattle.pm3_history.proofs.OwnedBy.{owned_by_none, owned_after}
 use Rattle.pm3_history.proofs.Plainly.{no_zero, no_nil_after, owned_none}
@@ -260,6 +261,31 @@ module _ (catalog : List Fields) (base : ℕ) (st : State) (e : Entry) (p : Pass
           let from = shown_from catalog base both images n r is in
           nowhere from.0 r (fits.one from.0 a n from.1 (laid_above (book_of base p.before) st.book a n old.1)) from.2
 
+-- each object of the spaces is in the book
+named_now : (catalog : List Fields) (base : ℕ) (st : State) (e : Entry) (p : Pass) → Chronicled catalog base st → TakesPages base st e p
+    → (a n : ℕ) → IsNamedOn base (laid (without st.volatile p.before) p.after) a n → get (next_book base st.book e.written (Some p)) a ≡ Some n
+named_now catalog base st e p chron takes a n is = by (laid_cases (without st.volatile p.before) p.after page is.sheet is.on)
+  where
+    page : ℕ
+    page = page_in base a
+
+    on : (images : Images) → get images page ≡ Some is.sheet → IsNamedOn base images a n
+    on images there = record { sheet = is.sheet; on = there; address = is.address; unmoved = is.unmoved; named = is.named }
+
+    not_promoted : contains_key p.after page ≡ true → get (promoted e.written p) page ≡ None
+    not_promoted left = none_if (get (promoted e.written p) page) (λ sheet new.
+        some_none (get e.written page) sheet (without_cases e.written p.changed page sheet new).1 (takes.apart page left))
+
+    by : (get p.after page ≡ Some is.sheet) ⊎ ((get p.after page ≡ None) × (get (without st.volatile p.before) page ≡ Some is.sheet))
+        → get (next_book base st.book e.written (Some p)) a ≡ Some n
+    by (inl left) =
+        laid_above (off_pages base st.book p.before) (book_of base (laid p.after (promoted e.written p))) a n
+        (book_of_has base (laid p.after (promoted e.written p)) a n
+        (on (laid p.after (promoted e.written p)) (laid_below p.after (promoted e.written p) page (not_promoted (ap is_some left)) ∙ left)))
+    by (inr kept) =
+        let was = without_cases st.volatile p.before page is.sheet kept.1 in
+        still_booked catalog base st e p chron takes a n (chron.named a n (on st.volatile was.1)) was.0
+
 pub pass_keeps : (catalog : List Fields) (base pages : ℕ) (st : State) (found left : Part) (tag mutator next_name high_page : ℕ) (written : Images) (p : Pass)
     → let e : Entry = record { tag = tag; mutator = mutator; next_name = next_name; high_page = high_page; found = found; left = left; written = written; pass = Some p } in
     Chronicled catalog base st → Tells st.graph (shown catalog base (book_for base st e) (images_of e)) e → IsPass catalog base pages st e p → Chronicled catalog base (step base st e)
@@ -273,6 +299,7 @@ pass_keeps catalog base pages st found left tag mutator next_name high_page writ
     record {
       fits = fits_now catalog base st.book (all_images st) book images images_left r chron.fits;
       placed = placed_now catalog base st e p chron pass.takes;
+      named = named_now catalog base st e p chron pass.takes;
       owned = λ q. owned_after st.volatile p.before p.after st.owner p.space q (chron.owned q);
       shows = shows_now catalog base st.book (all_images st) book images images_left r chron.fits st.graph s e tells chron.shows
           pass.only (unseen catalog base st e p chron pass.takes pass.fits)

@@ -115,6 +115,7 @@ plain_keeps catalog base st found left tag mutator next_name high_page written c
     record {
       fits = fits_now catalog base st.book (all_images st) st.book images written r chron.fits;
       placed = placed_now catalog base st written chron plain.persistent plain.fits;
+      named = chron.named;
       owned = chron.owned;
       shows = shows_now catalog base st.book (all_images st) st.book images written r chron.fits st.graph (shown catalog base st.book written) e tells chron.shows
           (part_of_itself (shown catalog base st.book written)) (unseen catalog base st written chron plain.persistent plain.fits) (λ none. none);

@@ -25,22 +25,22 @@ module _ (base : ℕ) (st : State) (e : Entry) (p : Pass) (takes : TakesPages ba
   volatile_now q = get (next_volatile st.volatile (Some p)) q
 
   -- a page that the pass leaves to its space
-  left_owner : (q : ℕ) (sheet : Sheet) → get p.after q ≡ Some sheet → owner_now q ≡ Some p.space
+  pub left_owner : (q : ℕ) (sheet : Sheet) → get p.after q ≡ Some sheet → owner_now q ≡ Some p.space
   left_owner q sheet on =
       laid_above (without st.owner p.before) (owned_by p.space p.after) q p.space
       (get-owned_by p.space p.after q ∙ ap (λ (o : Option Sheet). cond (is_some o) (Some p.space) None) on)
 
-  left_image : (q : ℕ) (sheet : Sheet) → get p.after q ≡ Some sheet → volatile_now q ≡ Some sheet
+  pub left_image : (q : ℕ) (sheet : Sheet) → get p.after q ≡ Some sheet → volatile_now q ≡ Some sheet
   left_image q sheet on = laid_above (without st.volatile p.before) p.after q sheet on
 
-  other_owner : (q : ℕ) → get p.after q ≡ None → owner_now q ≡ get (without st.owner p.before) q
+  pub other_owner : (q : ℕ) → get p.after q ≡ None → owner_now q ≡ get (without st.owner p.before) q
   other_owner q none = laid_below (without st.owner p.before) (owned_by p.space p.after) q (owned_by_none p.space p.after q none)
 
-  other_image : (q : ℕ) → get p.after q ≡ None → volatile_now q ≡ get (without st.volatile p.before) q
+  pub other_image : (q : ℕ) → get p.after q ≡ None → volatile_now q ≡ get (without st.volatile p.before) q
   other_image q none = laid_below (without st.volatile p.before) p.after q none
 
   -- a page that the pass had belonged to no other space
-  of_pass : (q space : ℕ) → get st.owner q ≡ Some space → contains_key p.before q ≡ true → p.space ≡ space
+  pub of_pass : (q space : ℕ) → get st.owner q ≡ Some space → contains_key p.before q ≡ true → p.space ≡ space
   of_pass q space mine there = which (takes.before q there)
     where
       which : (get st.owner q ≡ Some p.space) ⊎ IsFree base st q → p.space ≡ space
@@ -48,7 +48,7 @@ module _ (base : ℕ) (st : State) (e : Entry) (p : Pass) (takes : TakesPages ba
       which (inr free) = absurd (some_none (get st.owner q) space mine free.unowned)
 
   -- nor does one that it leaves to its space
-  of_left : (q space : ℕ) → get st.owner q ≡ Some space → contains_key p.after q ≡ true → p.space ≡ space
+  pub of_left : (q space : ℕ) → get st.owner q ≡ Some space → contains_key p.after q ≡ true → p.space ≡ space
   of_left q space mine there = which (takes.after q there)
     where
       which : (contains_key p.before q ≡ true) ⊎ IsFree base st q → p.space ≡ space

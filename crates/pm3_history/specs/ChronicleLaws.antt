@@ -1,10 +1,11 @@
 -- What holds after every lawful history.
-use Rattle.std.specs.Prelude.{ℕ, ◌≡◌, List, Some}
+use Rattle.std.specs.Prelude.{ℕ, ◌≡◌, ◌||◌, Bool, false, List, [], ◌∷◌, Option, Some, None}
 use Rattle.std.specs.FinMap.{get}
+use Rattle.std.specs.FinSet as set
 use Rattle.pm3_types.specs.Fields.{Fields}
 use Rattle.pm3_types.specs.ReachedLaws.{AgreesOnReached}
 use Rattle.pm3_types.specs.Shown.{shown}
-use Rattle.pm3_history.specs.Entry.{Done}
+use Rattle.pm3_history.specs.Entry.{Pass, Done}
 use Rattle.pm3_history.specs.State.{State, all_images, now}
 use Rattle.pm3_history.specs.Lawful.{AreLawful}
 use Rattle.pm3_history.specs.Opens.{Origin, Opens}
@@ -37,3 +38,19 @@ abbrev pub PersistentStay : Type 0
 PersistentStay = (catalog : List Fields) (base pages : ℕ) (st : State) (h : List Done) (a n : ℕ)
     → Chronicled catalog base st → AreLawful catalog base pages st h → get (persistent_book base st) a ≡ Some n
     → get (persistent_book base (now catalog base st h)) a ≡ Some n
+
+-- the transaction of the pass made an object of this name
+abbrev pub made_by : Option Pass → ℕ → Bool
+made_by None n = false
+made_by (Some p) n = set.contains p.made n
+
+-- one of the commits made one
+abbrev pub some_made : List Done → ℕ → Bool
+some_made [] n = false
+some_made (d ∷ ds) n = made_by d.pass n || some_made ds n
+
+-- a name that the graph lacked, and that no commit made, it lacks still
+abbrev pub NamesAreMade : Type 0
+NamesAreMade = (catalog : List Fields) (base pages : ℕ) (st : State) (h : List Done) (n : ℕ)
+    → Chronicled catalog base st → AreLawful catalog base pages st h → get st.graph.records n ≡ None → some_made h n ≡ false
+    → get (now catalog base st h).graph.records n ≡ None

@@ -15,8 +15,8 @@ pub record Move : Type 0 where
   pub to : ℕ
 
 -- The pass of a commit that holds its space: the space, its images and the changed persistent images just before the pass,
--- the marked pages, the words that it read, one for each place in order, the pinned pages, the moves, and the space's images
--- after it.
+-- the marked pages, the words that it read, one for each place in order, the pinned pages, the moves, the space's images
+-- after it, and the names of the objects that its transaction made.
 pub record Pass : Type 0 where
   pub space : ℕ
   pub before : Images
@@ -26,6 +26,7 @@ pub record Pass : Type 0 where
   pub pinned : set.FinSet nat_cmp
   pub moves : List Move
   pub after : Images
+  pub made : set.FinSet nat_cmp
 
 -- A commit as its mutator has it: the tag, the mutator, the next name and the high page of its record, the persistent images
 -- that it found and those that it leaves, the images that it writes, and its pass or none.
@@ -69,10 +70,10 @@ move_code =
 
 abbrev pub pass_code : Coded Pass
 pass_code =
-    code_by (ℕ × (Images × (Images × (set.FinSet nat_cmp × (List ℕ × (set.FinSet nat_cmp × (List Move × Images)))))))
-    (coded× coded_ℕ (coded× images_code (coded× images_code (coded× numbers_code (coded× (coded_list coded_ℕ) (coded× numbers_code (coded× (coded_list move_code) images_code)))))))
-    (λ p. (p.space, (p.before, (p.changed, (p.marked, (p.words, (p.pinned, (p.moves, p.after))))))))
-    (λ t. record { space = t.0; before = t.1.0; changed = t.1.1.0; marked = t.1.1.1.0; words = t.1.1.1.1.0; pinned = t.1.1.1.1.1.0; moves = t.1.1.1.1.1.1.0; after = t.1.1.1.1.1.1.1 })
+    code_by (ℕ × (Images × (Images × (set.FinSet nat_cmp × (List ℕ × (set.FinSet nat_cmp × (List Move × (Images × set.FinSet nat_cmp))))))))
+    (coded× coded_ℕ (coded× images_code (coded× images_code (coded× numbers_code (coded× (coded_list coded_ℕ) (coded× numbers_code (coded× (coded_list move_code) (coded× images_code numbers_code))))))))
+    (λ p. (p.space, (p.before, (p.changed, (p.marked, (p.words, (p.pinned, (p.moves, (p.after, p.made)))))))))
+    (λ t. record { space = t.0; before = t.1.0; changed = t.1.1.0; marked = t.1.1.1.0; words = t.1.1.1.1.0; pinned = t.1.1.1.1.1.0; moves = t.1.1.1.1.1.1.0; after = t.1.1.1.1.1.1.1.0; made = t.1.1.1.1.1.1.1.1 })
     (λ _. refl)
 
 abbrev pub done_code : Coded Done

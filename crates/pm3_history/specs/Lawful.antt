@@ -95,13 +95,15 @@ pub record TakesPages (base : ℕ) (st : State) (e : Entry) (p : Pass) : Type 0 
   pub apart : (page : ℕ) → contains_key p.after page ≡ true → get e.written page ≡ None
 
 -- A pass: it marked each page with an object of its space and read every place, its pinned pages are the marked ones that a
--- word names, and under the new book its images show only what they showed under the old one.
+-- word names, the objects of its space that the book lacks are those that its transaction made, and under the new book its
+-- images show only what they showed under the old one.
 pub record IsPass (catalog : List Fields) (base pages : ℕ) (st : State) (e : Entry) (p : Pass) : Type 0 where
   pub marked : (a n : ℕ) → get (book_for base st e) a ≡ Some n → contains_key p.before (page_in base a) ≡ true
       → set.contains p.marked (page_in base a) ≡ true
   pub words : length p.words ≡ 16384
   pub pinned : (page : ℕ) → set.contains p.pinned page ≡ true
       ↔ ((set.contains p.marked page ≡ true) × ((w : ℕ) × Contains p.words w × Names pages w page))
+  pub made : (a n : ℕ) → get (book_for base st e) a ≡ Some n → (get st.book a ≡ Some n) ⊎ (set.contains p.made n ≡ true)
   pub takes : TakesPages base st e p
   pub fits : FitsImages catalog base (book_for base st e) (images_of e)
   pub fits_after : FitsImages catalog base (next_book base st.book e.written (Some p)) (laid p.after e.written)

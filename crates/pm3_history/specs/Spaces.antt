@@ -8,7 +8,9 @@ use Rattle.pm3_history.specs.Chronicled.{Chronicled}
 use Rattle.pm3_history.specs.Entry.{Pass, Done, Entry}
 use Rattle.pm3_history.specs.Lawful.{IsLawful, AreLawful, book_for}
 use Rattle.pm3_history.specs.Named.{next_book}
-use Rattle.pm3_history.specs.State.{State, step, entry_after, now}
+use Rattle.pm3_history.specs.LastImages.{last_written}
+use Rattle.pm3_history.specs.Persistent.{persistent_book}
+use Rattle.pm3_history.specs.State.{State, all_images, step, entry_after, now}
 
 -- these are the last images of the space
 abbrev pub AreOfSpace : State → ℕ → Images → Type 0
@@ -30,6 +32,25 @@ SpacesStand = (catalog : List Fields) (base pages : ℕ) (st : State) (e : Entry
 abbrev pub SpacesAreLeft : Type 0
 SpacesAreLeft = (catalog : List Fields) (base pages : ℕ) (st : State) (e : Entry) (p : Pass)
     → Chronicled catalog base st → IsLawful catalog base pages st e → e.pass ≡ Some p → AreOfSpace (step base st e) p.space p.after
+
+-- no commit has a pass of this space
+abbrev pub NoneOfSpace : List Done → ℕ → Type 0
+NoneOfSpace [] space = Unit {0}
+NoneOfSpace (d ∷ ds) space = (NamesSpace d.pass space → ⊥) × NoneOfSpace ds space
+
+-- its pages then stay its own, with the images and the objects that they had
+abbrev pub SpacesStay : Type 0
+SpacesStay = (catalog : List Fields) (base pages : ℕ) (st : State) (h : List Done) (space page : ℕ)
+    → Chronicled catalog base st → AreLawful catalog base pages st h → NoneOfSpace h space → get st.owner page ≡ Some space
+    → let after = now catalog base st h in
+    (get after.owner page ≡ Some space) × (get (all_images after) page ≡ get (all_images st) page)
+    × ((a n : ℕ) → page_in base a ≡ page → get st.book a ≡ Some n → get after.book a ≡ Some n)
+
+-- a persistent object came to lie on its page by a commit that wrote that
+abbrev pub PersistentAreWritten : Type 0
+PersistentAreWritten = (catalog : List Fields) (base pages : ℕ) (st : State) (h : List Done) (a n : ℕ)
+    → Chronicled catalog base st → AreLawful catalog base pages st h → last_written h (page_in base a) ≡ None
+    → get (persistent_book base (now catalog base st h)) a ≡ Some n → get (persistent_book base st) a ≡ Some n
 
 -- no object of this page moves in the pass, and none is dead after it
 abbrev pub Spares : ℕ → State → Entry → ℕ → Option Pass → Type 0

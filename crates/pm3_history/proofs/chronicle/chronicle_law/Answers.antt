@@ -1,5 +1,6 @@
 use Rattle.pm3_history.proofs.Chronicles.{openings_are_chronicled, histories_keep, nothing_is_lost, nothing_is_volatile}
 use Rattle.pm3_history.proofs.Staying.{persistent_stay}
+use Rattle.pm3_history.proofs.Names.{names_are_made}
 use Rattle.pm3_history.proofs.chronicle.chronicle_law.Goals as goal
 
 pub returns : goal.returns
@@ -9,4 +10,5 @@ returns c = record {
   nothing_lost = nothing_is_lost;
   nothing_volatile = nothing_is_volatile;
   persistent = persistent_stay;
+  made = names_are_made;
 }
