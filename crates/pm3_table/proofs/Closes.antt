@@ -2,7 +2,7 @@
 use Rattle.std.proofs.Common.{◌≡◌, ◌≢◌, ℕ, suc, ◌+◌, ◌-◌, ◌<◌, ◌≤◌, ◌==◌, Bool, true, false, List, [], ◌++◌, length, get_or, min, Option, None, refl, sym, ap, ◌∙◌, subst, ⊎_elim, arith}
 use Rattle.std.proofs.Math.ListN.{set}
 use Rattle.std.proofs.lemmas.Bool.Decides.{nat_tests}
-use mathlib.Core.Option.{none}
+use mathlib.Core.Option.{none, some-injective}
 use mathlib.Core.Logic.{dite}
 use native.Mathlib.Decide.{ℕ_discrete}
 use Rattle.atomic_table.specs.Table.{State, Me, step, keeps, Allows, Final, Seen}
@@ -125,7 +125,7 @@ module _ {V : Type 0} (stands : Told → List Done → List Done → ℕ → V �
 
   -- a table closed by one that saw that it is the last, and that holds nothing
   pub closes : (id : ℕ) (old : View) (made : ℕ) (words : List ℕ) (slots : List (Option V)) → old.live ≡ true → ((u : ℕ) → holds_of old.holds u ≡ false) → old.rows ≡ []
-      → Final (Seen Rule id (record old { last = true; made = made })) words slots → IsClosed stands told old (length old.kept + 1) slots
+      → Final (Seen Rule id (record old { last = true; made = made })) words slots → IsClosed stands counted told old (length old.kept + 1) slots
   closes id old made words slots live bare no_rows final =
       let v : View = record old { last = true; made = made } in
       let s = final.0 in let r : Rule s = final.1.0 in let l : Lives s.views id v = (final.1.1, live) in
@@ -145,7 +145,16 @@ module _ {V : Type 0} (stands : Told → List Done → List Done → ℕ → V �
       let mine : f v.row ≡ length v.kept + 1 = ap (λ (y : View). drew 2 (draw_view y)) here ∙ drew_is v live no_rows in
       let sum = r.draws.sum 2 (omega arith) in
       let made_is : length old.kept + 1 ≡ min (r.counter 2) 32 = omega (arith, whole, zero_sum, mine, sum) in
+      let last : ℕ = turn_unit told.pages in
+      let last_home = r.units.home last (omega arith) (free last) in
       record {
+        wide = sym final.3 ∙ r.units.deep ∙ omega arith;
+        heard = λ x at.
+            let same : x ≡ last_home.0 = some-injective x last_home.0 (sym at ∙ final.4 last last_home.0 last_home.1) in
+            let most : (r.crew v.row).faults ≤ counted_in counted last_home.0 = r.units.heard last_home.0 last_home.1 v.row lives in
+            let own : (r.crew v.row).faults ≡ old.faults = ap (λ (y : View). y.faults) here in
+            let counts_same : counted_in counted x ≡ counted_in counted last_home.0 = ap (counted_in counted) same in
+            omega (arith, most, own, counts_same);
         lawful = subst (λ (h : List Done). Lawful told h) seen r.lawful.0;
         lawful_failed = subst (λ (z : List Done × List Done). Lawful told (z.1 ++ z.0)) (λ i. (lost_is i, seen i)) r.lawful.1;
         stand = λ u low. let home = r.units.home u (omega (arith, low)) (free u) in

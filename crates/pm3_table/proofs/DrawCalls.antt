@@ -10,13 +10,13 @@ use Rattle.pm3_table.specs.declared.view.Told.{Told}
 use Rattle.pm3_table.specs.declared.view.View.{View}
 use Rattle.pm3_table.specs.Ops.{begins_draw, saw_full, drew_page, drew_name, drew_row}
 use Rattle.pm3_table.specs.Crew.{Lives}
-use Rattle.pm3_table.specs.Telling.{limit, first}
+use Rattle.pm3_table.specs.Telling.{limit, first, IsNewName, IsNewPage, IsAnyNumber}
 use Rattle.pm3_table.specs.Words.{counter_at}
 use Rattle.pm3_table.specs.Rule.{Ruled}
 use Rattle.pm3_table.specs.Plays as play
 use Rattle.pm3_table.proofs.DrawsKept.{room}
 use Rattle.pm3_table.proofs.RowSteps.{here_is, here_lives, row_low}
-use Rattle.pm3_table.proofs.DrawSteps.{begins, sees_full, fetches_full, draws_page, draws_name, draws_row}
+use Rattle.pm3_table.proofs.DrawSteps.{begins, sees_full, fetches_full, new_page, new_name, draws_page, draws_name, draws_row}
 use Rattle.pm3_table.specs.Rule.{draw_view}
 
 wraps_not : (n l : ℕ) → n < l + 32 → l < 2 ^ 63 → (n + 1) % 2 ^ 64 ≡ n + 1
@@ -47,12 +47,13 @@ module _ {V : Type 0} (stands : Told → List Done → List Done → ℕ → V �
       let same = counter_is s r c low in
       ap (λ (n : ℕ). (n + 1) % 2 ^ 64) same ∙ wraps_not (r.counter c) (limit told c) free bound
 
-  -- a fetch of the counter c, of which `drew` tells what it is to have drawn
-  module _ (c : ℕ) (low : c < 3) (bound : limit told c < 2 ^ 63) (drew : View → ℕ → View)
+  -- a fetch of the counter c, of which `drew` tells what it is to have drawn, and `New` what is told of the number
+  module _ (c : ℕ) (low : c < 3) (bound : limit told c < 2 ^ 63) (drew : View → ℕ → View) (New : Told → View → ℕ → Type 0)
+      (new : (s : State (Option V) View) (r : Rule s) (seat : Lives s.views id me.0) → New told me.0 (r.counter c))
       (draws : (s : State (Option V) View) (r : Rule s) (seat : Lives s.views id me.0) → me.0.drawing ≡ c + 1 → r.counter c < limit told c
       → Rule record { words = set s.words (counter_at told.pages c) (r.counter c + 1); homes = s.homes; views = set s.views id (drew me.0 (r.counter c)) }) where
     fetch_by : (at : ℕ) (aim_told : Told) → at ≡ counter_at told.pages c → aim_told ≡ told → me.0.drawing ≡ c + 1
-        → Allows Rule slots id me at (λ n. (n + 1) % 2 ^ 64) (play.fetches aim_told c drew (step slots at 1 0 none) me)
+        → Allows Rule slots id me at (λ n. (n + 1) % 2 ^ 64) (play.fetches aim_told c drew New (step slots at 1 0 none) me)
     fetch_by at aim_told is aimed drawing = rw (is, aimed) (λ s r deep seat fits.
         let i : ℕ = counter_at told.pages c in
         let n : ℕ = get_or s.words i 0 in
@@ -71,17 +72,19 @@ module _ {V : Type 0} (stands : Told → List Done → List Done → ℕ → V �
           keeps,
           tt,
           subst (λ (z : ℕ × ℕ). Rule record { words = set s.words i z.0; homes = s.homes; views = set s.views id (drew me.0 z.1) }) (λ j. (next j, sym same j)) (draws s r (seat, live) drawing (omega (arith, below))),
-          ((λ full. absurd (omega (arith, below, same, full))), λ _. refl),
+          ((λ full. absurd (omega (arith, below, same, full))), λ _. (refl, subst (New told me.0) (sym same) (new s r (seat, live)))),
         )))
 
   pub fetch_page_call : (at : ℕ) (aim_told : Told) → at ≡ counter_at told.pages 0 → aim_told ≡ told → me.0.drawing ≡ 1
-      → Allows Rule slots id me at (λ n. (n + 1) % 2 ^ 64) (play.fetches aim_told 0 drew_page (step slots at 1 0 none) me)
-  fetch_page_call = fetch_by 0 (omega arith) (omega (arith, small)) drew_page (λ s r seat drawing below. draws_page stands spans counted told s r id me.0 seat drawing below)
+      → Allows Rule slots id me at (λ n. (n + 1) % 2 ^ 64) (play.fetches aim_told 0 drew_page IsNewPage (step slots at 1 0 none) me)
+  fetch_page_call = fetch_by 0 (omega arith) (omega (arith, small)) drew_page IsNewPage (λ s r seat. new_page stands spans counted told s r id me.0 seat)
+      (λ s r seat drawing below. draws_page stands spans counted told s r id me.0 seat drawing below)
 
   pub fetch_name_call : (at : ℕ) (aim_told : Told) → at ≡ counter_at told.pages 1 → aim_told ≡ told → me.0.drawing ≡ 2
-      → Allows Rule slots id me at (λ n. (n + 1) % 2 ^ 64) (play.fetches aim_told 1 drew_name (step slots at 1 0 none) me)
-  fetch_name_call = fetch_by 1 (omega arith) (omega arith) drew_name (λ s r seat drawing below. draws_name stands spans counted told s r id me.0 seat drawing below)
+      → Allows Rule slots id me at (λ n. (n + 1) % 2 ^ 64) (play.fetches aim_told 1 drew_name IsNewName (step slots at 1 0 none) me)
+  fetch_name_call = fetch_by 1 (omega arith) (omega arith) drew_name IsNewName (λ s r seat. new_name stands spans counted told s r id me.0 seat)
+      (λ s r seat drawing below. draws_name stands spans counted told s r id me.0 seat drawing below)
 
   pub fetch_row_call : (at : ℕ) (aim_told : Told) → at ≡ counter_at told.pages 2 → aim_told ≡ told → me.0.drawing ≡ 3
-      → Allows Rule slots id me at (λ n. (n + 1) % 2 ^ 64) (play.fetches aim_told 2 drew_row (step slots at 1 0 none) me)
-  fetch_row_call = fetch_by 2 (omega arith) (omega arith) drew_row (λ s r seat drawing below. draws_row stands spans counted told s r id me.0 seat drawing below)
+      → Allows Rule slots id me at (λ n. (n + 1) % 2 ^ 64) (play.fetches aim_told 2 drew_row IsAnyNumber (step slots at 1 0 none) me)
+  fetch_row_call = fetch_by 2 (omega arith) (omega arith) drew_row IsAnyNumber (λ s r seat. tt) (λ s r seat drawing below. draws_row stands spans counted told s r id me.0 seat drawing below)

@@ -1,5 +1,5 @@
 -- Steps of draws, and a look at a page's word, keep the whole rule.
-use Rattle.std.proofs.Common.{◌≡◌, ◌≢◌, ◌⊎◌, ℕ, suc, ◌+◌, ◌^◌, ◌<◌, ◌≤◌, true, false, List, [], ◌∷◌, ◌++◌, length, get_or, min, Option, None, refl, sym, ap, ◌∙◌, subst, inl, inr, arith}
+use Rattle.std.proofs.Common.{◌≡◌, ◌≢◌, ◌⊎◌, ℕ, suc, ◌+◌, ◌^◌, ◌<◌, ◌≤◌, Bool, true, false, List, [], ◌∷◌, ◌++◌, length, get_or, min, Option, None, refl, sym, ap, ◌∙◌, subst, inl, inr, arith}
 use Rattle.std.proofs.Math.ListN.{set}
 use Rattle.std.proofs.lemmas.Bool.Decides.{nat_tests}
 use mathlib.Core.Logic.{dite}
@@ -10,11 +10,12 @@ use Rattle.pm3_history.specs.Entry.{Done}
 use Rattle.pm3_table.specs.declared.view.Told.{Told}
 use Rattle.pm3_table.specs.declared.view.View.{View}
 use Rattle.pm3_table.specs.Crew.{Lives}
-use Rattle.pm3_table.specs.Entries.{makes}
+use Rattle.pm3_table.specs.Entries.{makes, writes}
+use Rattle.pm3_table.specs.Histories.{some_has}
 use Rattle.pm3_table.specs.Holds.{is_in}
 use Rattle.pm3_table.specs.Names.{NamesRule}
 use Rattle.pm3_table.specs.Ops.{begins_draw, saw_full, drew_page, drew_name, drew_row, knew}
-use Rattle.pm3_table.specs.Telling.{limit, first, names, names_page, Good, spans_in, counted_in, knows_used}
+use Rattle.pm3_table.specs.Telling.{limit, first, names, names_page, Good, spans_in, counted_in, is_steady, knows_used, IsNewName, IsNewPage}
 use Rattle.pm3_table.specs.Words.{Encodes, unit_at, counter_at, space_in, turn_unit}
 use Rattle.pm3_table.specs.Rows.{RowsRule, moves_of}
 use Rattle.pm3_table.specs.Pages.{PagesRule}
@@ -25,14 +26,15 @@ use Rattle.pm3_table.specs.Lost.{LostRule}
 use Rattle.pm3_table.specs.Lasts.{LastRule}
 use Rattle.pm3_table.specs.Rule.{Ruled, row_view, unit_view, page_view, draw_view, name_view, count_view, lost_view, last_view}
 use Rattle.pm3_table.proofs.Put.{put_cases}
-use Rattle.pm3_table.proofs.Has.{by_past}
+use Rattle.pm3_table.proofs.Has.{by_past, has_left}
 use Rattle.pm3_table.proofs.Advances.{seated_now, unchanged}
 use Rattle.pm3_table.proofs.Encoded.{encode_same, encode_counter}
-use Rattle.pm3_table.proofs.RowSteps.{at_view, here_is, here_lives, row_low, space_found}
+use Rattle.pm3_table.proofs.RowSteps.{at_view, here_is, here_lives, row_low, space_found, in_space}
 use Rattle.pm3_table.proofs.DrawsKept.{draws_part, from_first}
 use Rattle.pm3_table.proofs.PagesKept.{page_with, pages_draw, pages_higher, pages_look}
 use Rattle.pm3_table.proofs.NamesKept.{name_with, names_draw, names_higher, count_with, rows_draw}
 use Rattle.pm3_table.proofs.TurnSteps.{used_is}
+use Rattle.pm3_table.proofs.UnitSteps.{either_steady}
 
 -- one that draws from a counter, or from none
 is_busy : (c : ℕ) (v : View) → v.live ≡ true → v.drawing ≡ c + 1 → is_drawing c (draw_view v) ≡ 1
@@ -227,6 +229,18 @@ module _ {V : Type 0} (stands : Told → List Done → List Done → ℕ → V �
         (same_counts (min (counter' 2) 32) w l.1 refl refl
         (put_cases (λ x. min x 32 ≡ min (r.counter 2) 32) r.counter c (r.counter c + 1) 2 (λ e. let a : 32 ≤ r.counter 2 = subst (λ n. limit told n ≤ r.counter n) (sym e) full in let b : r.counter 2 ≡ r.counter c = ap r.counter e in omega (arith, a, b)) (λ _. refl)))
 
+    -- what is of the commits that the view has seen is of the history
+    seen_has : (has : Done → ℕ → Bool) (n : ℕ) → some_has has v.seen n ≡ true → some_has has r.history n ≡ true
+    seen_has has n is = let know = r.units.known v.row (here_lives stands spans counted told s r id v l) in
+        ap (λ (h : List Done). some_has has h n) know.is
+        ∙ has_left has (r.crew v.row).seen know.after n (ap (λ (x : View). some_has has x.seen n) (here_is stands spans counted told s r id v l) ∙ is)
+
+    -- what the view knows to be persistent is used
+    steady_used : (p : ℕ) → is_steady told v p ≡ true → r.used p ≡ true
+    steady_used p steady = either_steady told v p steady (r.paged.opened p)
+        (λ is. (r.paged.steady v.row (here_lives stands spans counted told s r id v l) p (ap (λ (x : View). is_in p x.steady) (here_is stands spans counted told s r id v l) ∙ is)).0)
+        (λ is. (r.paged.written p (seen_has writes p is)).0)
+
     -- the counters after a fetch from one of them that is below its limit
     sums_of : (c : ℕ) (w : View) → r.counter c < limit told c → drew c (draw_view w) ≡ drew c (draw_view v) + 1 → ((i : ℕ) → i < 3 → i ≢ c → drew i (draw_view w) ≡ drew i (draw_view v)) → w.live ≡ true → w.drawing ≡ 0 → v.drawing ≡ c + 1 → w.filled ≡ v.filled → w.row ≡ v.row
         → DrawsRule (limit told) (first told) (put r.counter c (r.counter c + 1)) (λ k. draw_view (put r.crew v.row w k))
@@ -244,6 +258,40 @@ module _ {V : Type 0} (stands : Told → List Done → List Done → ℕ → V �
         (λ i _ past. put_cases (λ x. x + is_drawing i (draw_view w) ≤ r.counter i + is_drawing i (draw_view v)) r.counter c (r.counter c + 1) i
         (λ e. let b : r.counter i ≡ r.counter c = ap r.counter e in let one : is_drawing i (draw_view v) ≡ 1 = is_busy i v l.1 (drawing ∙ ap (λ n. n + 1) (sym e)) in let nil : is_drawing i (draw_view w) ≡ 0 = is_idle i w idle in omega (arith, b, one, nil))
         (λ _. let nil : is_drawing i (draw_view w) ≡ 0 = is_idle i w idle in omega (arith, nil)))
+
+    -- the number at the counter of pages is that of a page that no one has or names
+    pub new_page : IsNewPage told v (r.counter 0)
+    new_page = record {
+      from = from_first (limit told) (first told) r.counter (λ k. draw_view (r.crew k)) r.draws 0 (omega arith);
+      elsewhere = λ j has.
+          let sp = in_space stands spans counted told s r id v l j (r.counter 0) has in
+          unused (r.paged.volatile (r.counter 0) (λ z. omega (arith, z, sp))).2;
+      unnamed = falls (some_has (names_page told) v.seen (r.counter 0))
+          (λ is. unused (r.paged.named (r.counter 0) (seen_has (names_page told) (r.counter 0) is)));
+      unknown = falls (is_steady told v (r.counter 0)) (λ is. unused (steady_used (r.counter 0) is));
+    }
+      where
+        falls : (b : Bool) → (b ≡ true → ⊥) → b ≡ false
+        falls true never = absurd (never refl)
+        falls false never = refl
+
+        unused : r.used (r.counter 0) ≡ true → ⊥
+        unused is = let low = (r.paged.low (r.counter 0) is).1 in omega (arith, low)
+
+    -- the number at the counter of names is one that no commit made
+    pub new_name : IsNewName told v (r.counter 1)
+    new_name = record {
+      from = from_first (limit told) (first told) r.counter (λ k. draw_view (r.crew k)) r.draws 1 (omega arith);
+      undrawn = falls (is_in (r.counter 1) v.names) (λ is.
+          let was = r.named.drawn v.row (here_lives stands spans counted told s r id v l) (r.counter 1) (ap (λ (x : View). is_in (r.counter 1) x.names) (here_is stands spans counted told s r id v l) ∙ is) in
+          omega (arith, was.1));
+      unmade = falls (some_has makes v.seen (r.counter 1))
+          (λ is. let low = r.named.low (r.counter 1) (seen_has makes (r.counter 1) is) in omega (arith, low));
+    }
+      where
+        falls : (b : Bool) → (b ≡ true → ⊥) → b ≡ false
+        falls true never = absurd (never refl)
+        falls false never = refl
 
     -- a page is drawn
     pub draws_page : v.drawing ≡ 1 → r.counter 0 < told.pages

@@ -12,7 +12,7 @@ use Rattle.pm3_history.specs.Entry.{Done}
 use Rattle.pm3_table.specs.declared.view.Hold.{Hold}
 use Rattle.pm3_table.specs.declared.view.Hold.TheVariants.{Took, Gave}
 use Rattle.pm3_table.specs.declared.view.Span.{Span}
-use Rattle.pm3_table.specs.declared.view.Span.TheVariants.{Spread, Went}
+use Rattle.pm3_table.specs.declared.view.Span.TheVariants.{Spread}
 use Rattle.pm3_table.specs.Entries.{writes}
 use Rattle.pm3_table.specs.Histories.{some_has}
 use Rattle.pm3_table.specs.Holds.{holds_of, spans_of, is_in, without_number}

@@ -22,7 +22,7 @@ use Rattle.pm3_table.specs.Rule.{Ruled}
 use Rattle.pm3_table.specs.Plays as play
 use Rattle.pm3_table.proofs.RowSteps.{stores, reads, own_word, validates, refuses, marks, unmarks, in_space, space_found, own_page, alone_page}
 use Rattle.pm3_table.proofs.SeenLawful.{seen_lawful}
-use Rattle.pm3_table.proofs.DrawSteps.{looks, draw_step, stays_same}
+use Rattle.pm3_table.proofs.DrawSteps.{looks, stays_same}
 use Rattle.pm3_table.proofs.UnitSteps.{steady_is}
 use Rattle.pm3_table.proofs.Settling.{settles_in, settles_held, not_held, at_home}
 
@@ -60,24 +60,25 @@ module _ {V : Type 0} (stands : Told → List Done → List Done → ℕ → V �
     (refl, seen_lawful stands spans counted told s r id me.0 (seat, live)),
   ))
 
-  pub validate_call : (at aim_row aim place p : ℕ) → at ≡ unit_at p → aim_row ≡ place → aim ≡ p → place < ROW_PLACES → Names told.pages (word_of me.0.log place) p
-      → Allows Rule slots id me at (λ n. n) (play.validates aim_row aim (step slots at 0 0 none) me)
-  validate_call at aim_row aim place p is aimed_row aimed low named = rw (is, aimed_row, aimed) (λ s r deep seat fits.
+  pub validate_call : (at aim_row aim place p : ℕ) (aim_told : Told) → at ≡ unit_at p → aim_told ≡ told → aim_row ≡ place → aim ≡ p → place < ROW_PLACES → Names told.pages (word_of me.0.log place) p
+      → Allows Rule slots id me at (λ n. n) (play.validates aim_told aim_row aim (step slots at 0 0 none) me)
+  validate_call at aim_row aim place p aim_told is aimed_told aimed_row aimed low named = rw (is, aimed_told, aimed_row, aimed) (λ s r deep seat fits.
       let n : ℕ = get_or s.words (unit_at p) 0 in
+      let own : (j : ℕ) → HasInSpace told me.0 j p → n ≡ unit_word 0 (mark_by me.0 p) (j + 1) = λ j has. own_page stands spans counted told s r id me.0 (seat, live) j p has in
       dite (ℕ_discrete (mark_in n) 0)
       (λ bare. (
         did me.0 (Stood place),
         keeps,
         tt,
         validates stands spans counted told s r id me.0 (seat, live) place p low named bare,
-        ap (λ (b : Bool). ((if b then did me.0 (Stood place) else refused me.0 p n), me.1)) (sym (zero_test (mark_in n) bare)),
+        (ap (λ (b : Bool). ((if b then did me.0 (Stood place) else refused me.0 p n), me.1)) (sym (zero_test (mark_in n) bare)), own),
       ))
       (λ taken. (
         refused me.0 p n,
         keeps,
         tt,
         refuses stands spans counted told s r id me.0 (seat, live) place p low named taken,
-        ap (λ (b : Bool). ((if b then did me.0 (Stood place) else refused me.0 p n), me.1)) (sym (zero_not (mark_in n) taken)),
+        (ap (λ (b : Bool). ((if b then did me.0 (Stood place) else refused me.0 p n), me.1)) (sym (zero_not (mark_in n) taken)), own),
       )))
 
   pub mark_call : (at aim w j p : ℕ) → at ≡ unit_at p → aim ≡ p → w ≡ unit_word 0 (me.0.row + 1) (j + 1) → HasInSpace told me.0 j p → marks_of me.0.log p ≡ false

@@ -1,5 +1,5 @@
 -- The turn is given back, with commits that join the history and others that failed.
-use Rattle.std.proofs.Common.{◌≡◌, ◌≢◌, ◌⊎◌, ℕ, zero, suc, ◌+◌, ◌-◌, ◌*◌, ◌<◌, ◌≤◌, ◌==◌, ◌||◌, ◌&&◌, not, Bool, true, false, if◌then◌else◌, List, [], ◌∷◌, ◌++◌, append_assoc, length, get_or, map, min, Option, None, Some, refl, sym, ap, ◌∙◌, subst, inl, inr, ⊎_elim, arith}
+use Rattle.std.proofs.Common.{◌≡◌, ◌≢◌, ℕ, zero, suc, ◌+◌, ◌<◌, ◌≤◌, ◌==◌, ◌||◌, ◌&&◌, not, Bool, true, false, List, [], ◌∷◌, ◌++◌, append_assoc, map, min, Option, None, Some, refl, sym, ap, ◌∙◌, subst, inl, inr, ⊎_elim, arith}
 use Rattle.std.proofs.Math.Bool.{or-true}
 use Rattle.std.proofs.Math.ListN as list
 use Rattle.std.specs.List.{list_any}
@@ -19,10 +19,10 @@ use Rattle.pm3_history.specs.Entry.{Done, Move, Pass}
 use Rattle.pm3_table.specs.declared.view.Hold.TheVariants.{Gave}
 use Rattle.pm3_table.specs.declared.view.Told.{Told}
 use Rattle.pm3_table.specs.declared.view.View.{View}
-use Rattle.pm3_table.specs.Crew.{Lives, Seated}
-use Rattle.pm3_table.specs.Deeds.{marks_of, reads_of, IsClearedIn}
+use Rattle.pm3_table.specs.Crew.{Lives}
+use Rattle.pm3_table.specs.Deeds.{IsClearedIn}
 use Rattle.pm3_table.specs.Entries.{makes, touches, moved_of, moved_by, touched_by, writes}
-use Rattle.pm3_table.specs.Histories.{some_has, NoneHas, by, AllBy}
+use Rattle.pm3_table.specs.Histories.{some_has, AllBy}
 use Rattle.pm3_table.specs.Holds.{holds_of, spans_of, is_in}
 use Rattle.pm3_table.specs.Names.{NamesRule, spare}
 use Rattle.pm3_table.specs.Ops.{turned}

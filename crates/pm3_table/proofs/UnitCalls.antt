@@ -21,7 +21,7 @@ use Rattle.pm3_table.specs.Rule.{Ruled}
 use Rattle.pm3_table.specs.Plays as play
 use Rattle.pm3_table.specs.Plays.{Taken}
 use Rattle.pm3_table.proofs.RowSteps.{here_is, here_lives, holds_unit, refuses_unit}
-use Rattle.pm3_table.proofs.UnitSteps.{steady_is, word_free, takes_unit, gives_unit, sound_now}
+use Rattle.pm3_table.proofs.UnitSteps.{steady_is, word_free, takes_unit, gives_unit, sound_now, apart_now}
 use Rattle.pm3_table.proofs.TurnSteps.{gives_turn}
 use Rattle.pm3_table.proofs.DrawSteps.{stays_same}
 use Rattle.pm3_table.proofs.Carrying.{reach_act, reach_is}
@@ -123,7 +123,8 @@ module _ {V : Type 0} (stands : Told → List Done → List Done → ℕ → V �
               view = refl;
               apart = λ i holds. know.apart i (holds_unit stands spans counted told s r id me.0 (seat, live) i holds);
               good = subst (λ (h : List Done). Good stands told r.lost h u x) grown home.2;
-              sound = sound_now stands spans counted told frame s r id me.0 (seat, live) new refl (sym grown) refl refl refl;
+              sound = sound_now stands spans counted told frame s r id me.0 (seat, live) new refl (sym grown) refl refl refl
+                  (apart_now stands spans counted told frame s r id me.0 (seat, live) u x know.after home.1 grown);
               heard = λ same. subst (λ (y : View). y.faults ≤ counted_in counted x) here (r.units.heard x (ap (get_elem? s.homes) (sym same) ∙ home.1) me.0.row lives);
             },
             refl,

@@ -1,5 +1,5 @@
 -- Steps on units keep the whole rule: a unit is taken, given back, and the turn is given back with commits.
-use Rattle.std.proofs.Common.{◌≡◌, ◌≢◌, ℕ, ◌+◌, ◌-◌, ◌<◌, ◌≤◌, ◌==◌, ◌||◌, nat_lt, Bool, true, false, if◌then◌else◌, List, [], ◌∷◌, ◌++◌, get_or, min, Option, None, Some, refl, sym, ap, ◌∙◌, subst, ⊎_elim, arith}
+use Rattle.std.proofs.Common.{◌≡◌, ◌≢◌, ℕ, ◌+◌, ◌-◌, ◌<◌, ◌≤◌, ◌==◌, ◌||◌, nat_lt, Bool, true, false, if◌then◌else◌, List, [], ◌∷◌, ◌++◌, get_or, min, Option, None, Some, refl, sym, ap, ◌∙◌, subst, arith}
 use Rattle.std.proofs.Math.ListN.{set}
 use mathlib.Core.Option.{none, some}
 use mathlib.Core.Logic.{dite}
@@ -12,14 +12,14 @@ use Rattle.pm3_table.specs.declared.view.Hold.TheVariants.{Took, Gave}
 use Rattle.pm3_table.specs.declared.view.Span.TheVariants.{Spread}
 use Rattle.pm3_table.specs.declared.view.Told.{Told}
 use Rattle.pm3_table.specs.declared.view.View.{View}
-use Rattle.pm3_table.specs.Crew.{Lives, Seated}
-use Rattle.pm3_table.specs.Deeds.{marks_of, IsClearedIn}
-use Rattle.pm3_table.specs.Entries.{makes, touches, moved_of, writes}
-use Rattle.pm3_table.specs.Histories.{some_has, NoneHas, by, AllBy}
+use Rattle.pm3_table.specs.Crew.{Lives}
+use Rattle.pm3_table.specs.Deeds.{marks_of}
+use Rattle.pm3_table.specs.Entries.{makes, writes}
+use Rattle.pm3_table.specs.Histories.{some_has, by}
 use Rattle.pm3_table.specs.Holds.{holds_of, spans_of, is_in}
 use Rattle.pm3_table.specs.Names.{NamesRule}
 use Rattle.pm3_table.specs.Ops.{took, gave}
-use Rattle.pm3_table.specs.Telling.{limit, first, names, names_page, NoneNames, Lawful, Good, spans_in, counted_in, is_steady, IsSound}
+use Rattle.pm3_table.specs.Telling.{limit, first, names, names_page, NoneNames, Lawful, Good, spans_in, counted_in, is_steady, HasInSpace, IsSound}
 use Rattle.pm3_table.specs.Words.{Encodes, unit_at, unit_word, turn_unit, space_unit}
 use Rattle.pm3_table.specs.Rows.{RowsRule, moves_of}
 use Rattle.pm3_table.specs.Pages.{PagesRule}
@@ -29,14 +29,14 @@ use Rattle.pm3_table.specs.Counts.{CountsRule}
 use Rattle.pm3_table.specs.Lost.{LostRule}
 use Rattle.pm3_table.specs.Lasts.{LastRule}
 use Rattle.pm3_table.specs.Rule.{Ruled, row_view, unit_view, page_view, draw_view, name_view, count_view, lost_view, last_view}
-use Rattle.pm3_table.proofs.Put.{put_else, put_cases, put_same}
+use Rattle.pm3_table.proofs.Put.{put_at, put_else, put_cases, put_same}
 use Rattle.pm3_table.proofs.Advances.{seated_now, unchanged}
 use Rattle.pm3_table.proofs.Encoded.{encode_unit}
-use Rattle.pm3_table.proofs.RowSteps.{equal_test, at_view, here_is, here_lives, knows_row, holds_unit}
+use Rattle.pm3_table.proofs.RowSteps.{equal_by, equal_test, at_view, here_is, here_lives, knows_row, holds_unit, in_space}
 use Rattle.pm3_table.proofs.UnitsKept.{unit_with, takes_part, gives_part}
 use Rattle.std.proofs.lemmas.Bool.Decides.{nat_tests}
-use Rattle.pm3_table.proofs.Has.{none_join, has_one, has_left}
-use Rattle.pm3_table.proofs.PagesKept.{yes_or_no, page_with, pages_take, pages_give, held_page, not_marked}
+use Rattle.pm3_table.proofs.Has.{none_join, has_left}
+use Rattle.pm3_table.proofs.PagesKept.{page_with, pages_take, pages_give, not_marked}
 use Rattle.pm3_table.proofs.NamesKept.{own_of}
 use Rattle.pm3_table.proofs.LostKept.{lost_with, lost_take}
 
@@ -57,7 +57,7 @@ unnamed false b up e = refl
 none_more : (told : Told) (h : List Done) (e : Done) (u : ℕ) → names told e u ≡ false → NoneNames told h u → NoneNames told (h ++ e ∷ []) u
 none_more told h e u free spared = none_join (names told) h (e ∷ []) u spared (λ i. free i || false)
 
-either_steady : (told : Told) (v : View) (p : ℕ) {X : Type 0} → is_steady told v p ≡ true → (p < told.frontier → X) → (is_in p v.steady ≡ true → X)
+pub either_steady : (told : Told) (v : View) (p : ℕ) {X : Type 0} → is_steady told v p ≡ true → (p < told.frontier → X) → (is_in p v.steady ≡ true → X)
     → (some_has writes v.seen p ≡ true → X) → X
 either_steady told v p {X} steady a b c = three (nat_lt p told.frontier) (is_in p v.steady) (some_has writes v.seen p) (λ y. a (lt_of p told.frontier y)) b c steady
   where
@@ -96,8 +96,9 @@ module _ {V : Type 0} (stands : Told → List Done → List Done → ℕ → V �
 
   module _ (s : S) (r : Rule s) (id : ℕ) (v : View) (l : Lives s.views id v) where
     -- what is told of the view of one that has seen the whole history
-    pub sound_now : (w : View) → w.row ≡ v.row → w.seen ≡ r.history → w.mine ≡ v.mine → w.names ≡ v.names → w.pages ≡ v.pages → IsSound told w r.lost
-    sound_now w row seen mine named pages =
+    pub sound_now : (w : View) → w.row ≡ v.row → w.seen ≡ r.history → w.mine ≡ v.mine → w.names ≡ v.names → w.pages ≡ v.pages
+        → ((j p : ℕ) → HasInSpace told w j p → is_steady told w p ≡ false) → IsSound told w r.lost
+    sound_now w row seen mine named pages apart =
         let here = here_is stands spans counted told s r id v l in
         let lives = here_lives stands spans counted told s r id v l in record {
           lawful = subst (Lawful told) (sym seen) r.lawful.0;
@@ -107,6 +108,7 @@ module _ {V : Type 0} (stands : Told → List Done → List Done → ℕ → V �
               (was.0, ap (λ (h : List Done). some_has makes h n) seen ∙ was.2);
           new_pages = λ p is. let was = r.paged.drawn v.row lives p (ap (λ (x : View). is_in p x.pages) here ∙ (ap (is_in p) (sym pages) ∙ is)) in
               (was.0, ap (λ (h : List Done). some_has (names_page told) h p) seen ∙ not_named p was.3);
+          apart = apart;
         }
       where
         not_named : (p : ℕ) → r.used p ≡ false → some_has (names_page told) r.history p ≡ false
@@ -120,6 +122,35 @@ module _ {V : Type 0} (stands : Told → List Done → List Done → ℕ → V �
         (λ is. let know = r.units.known v.row (here_lives stands spans counted told s r id v l) in
         r.paged.written p (ap (λ (h : List Done). some_has writes h p) know.is
         ∙ has_left writes (r.crew v.row).seen know.after p (ap (λ (x : View). some_has writes x.seen p) (here_is stands spans counted told s r id v l) ∙ is)))
+
+    -- once it has taken a unit, no page of a space that it holds is one that it knows to be persistent
+    pub apart_now : (u : ℕ) (x : Slot) (after : List Done) → get_elem? s.homes u ≡ some (some x) → r.history ≡ v.seen ++ after
+        → (j p : ℕ) → HasInSpace told (took turn v u after r.lost (spans_in spans x) (counted_in counted x)) j p
+        → is_steady told (took turn v u after r.lost (spans_in spans x) (counted_in counted x)) p ≡ false
+    apart_now u x after at is j p has = falls (is_steady told w p) (λ steady. omega (arith, space_is, plain steady))
+      where
+        w : View
+        w = took turn v u after r.lost (spans_in spans x) (counted_in counted x)
+
+        falls : (b : Bool) → (b ≡ true → ⊥) → b ≡ false
+        falls true never = absurd (never refl)
+        falls false never = refl
+
+        space_is : r.space p ≡ j + 1
+        space_is = dite (ℕ_discrete (space_unit told.pages j) u)
+            (λ e. equal_by (r.space p) (j + 1) (sym (r.paged.at_home j has.0 x (ap (get_elem? s.homes) e ∙ at) p)
+            ∙ sym (ap (λ (f : ℕ → Bool). f p) (put_at (spans_of v.spans) u (λ n. is_in n (spans_in spans x)) (space_unit told.pages j) e)) ∙ has.2))
+            (λ o. in_space stands spans counted told s r id v l j p (
+              has.0,
+              sym (put_else (holds_of v.holds) u true (space_unit told.pages j) o) ∙ has.1,
+              sym (ap (λ (f : ℕ → Bool). f p) (put_else (spans_of v.spans) u (λ n. is_in n (spans_in spans x)) (space_unit told.pages j) o)) ∙ has.2,
+            ))
+
+        plain : is_steady told w p ≡ true → r.space p ≡ 0
+        plain steady = either_steady told w p steady
+            (λ below. dite (ℕ_discrete (r.space p) 0) (λ e. e) (λ o. absurd (let f = (r.paged.volatile p o).3 in omega (arith, f, below))))
+            (λ in_it. (r.paged.steady v.row (here_lives stands spans counted told s r id v l) p (ap (λ (y : View). is_in p y.steady) (here_is stands spans counted told s r id v l) ∙ in_it)).1)
+            (λ in_it. (r.paged.written p (ap (λ (h : List Done). some_has writes h p) is ∙ in_it)).1)
 
     -- the word of a unit that is free is 0, where a page is of no space
     pub word_free : (u : ℕ) → u < told.pages + 33 → (u < told.pages → r.space u ≡ 0) → get_or s.words (unit_at u) 0 ≡ r.holder u

@@ -1,8 +1,7 @@
 -- What a commit leaves alone that does not name a unit.
-use Rattle.std.proofs.Common.{◌≡◌, ◌≢◌, ℕ, ◌+◌, ◌==◌, ◌||◌, Bool, true, false, Option, None, is_some, refl, arith}
+use Rattle.std.proofs.Common.{◌≡◌, ◌≢◌, ℕ, ◌+◌, ◌==◌, false, arith}
 use Rattle.std.proofs.lemmas.Bool.Decides.{nat_tests}
-use Rattle.std.specs.FinMap.{get, contains_key}
-use Rattle.pm3_types.specs.Shown.{Images}
+use Rattle.std.specs.FinMap.{contains_key}
 use Rattle.pm3_history.specs.Entry.{Done}
 use Rattle.pm3_table.specs.Entries.{names_unit, is_space_of}
 use Rattle.pm3_table.specs.Words.{space_unit, turn_unit}

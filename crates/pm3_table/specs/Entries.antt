@@ -8,9 +8,8 @@ use Rattle.pm3_types.specs.Fields.{Fields, is_reference, has_refs}
 use Rattle.pm3_types.specs.Layout.{Sheet, is_start}
 use Rattle.pm3_types.specs.PageForm.{map_at, tail_at}
 use Rattle.pm3_types.specs.Shown.{Images}
-use Rattle.pm3_core.specs.declared.naming.TheConstants.{BASE}
 use Rattle.pm3_history.specs.Entry.{Done, Pass}
-use Rattle.pm3_history.specs.Named.{named_in}
+use Rattle.pm3_history.specs.ChronicleLaws.{made_by}
 
 -- the unit is the space of the pass; the spaces are the 32 units before the turn
 abbrev pub is_space_of : ℕ → ℕ → Option Pass → Bool
@@ -43,17 +42,9 @@ touched_by (Some p) page =
 abbrev pub touches : Done → ℕ → Bool
 touches e page = touched_by e.pass page
 
--- an object on the images has the name
-abbrev pub has_name : Images → ℕ → Bool
-has_name images n = list_any (λ x. x.1 == n) (named_in BASE images)
-
--- the commit makes the name: its space has it before the pass, and what it found has not
-abbrev pub made_by : Images → Option Pass → ℕ → Bool
-made_by found None n = false
-made_by found (Some p) n = has_name p.before n && not (has_name found n)
-
+-- the commit makes the name: its transaction made an object of that name in the space
 abbrev pub makes : Done → ℕ → Bool
-makes e n = made_by e.found e.pass n
+makes e n = made_by e.pass n
 
 -- word k of an object's body is a reference, where its type has this map and its tail this length
 abbrev pub is_reference_in : Option Fields → ℕ → ℕ → Bool

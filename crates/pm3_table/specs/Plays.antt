@@ -23,8 +23,10 @@ module _ {S : Type 0} where
   finds row place st me n me' = (me' ≡ (did me.0 (Found row place n), me.1)) × (row ≡ me.0.row → n ≡ word_of me.0.log place)
 
   -- a load of the word of the page that a place names
-  abbrev pub validates : ℕ → ℕ → Step S → Me S View → ℕ → Me S View → Type 0
-  validates place page st me n me' = me' ≡ ((if mark_in n == 0 then did me.0 (Stood place) else refused me.0 page n), me.1)
+  abbrev pub validates : Told → ℕ → ℕ → Step S → Me S View → ℕ → Me S View → Type 0
+  validates told place page st me n me' =
+      (me' ≡ ((if mark_in n == 0 then did me.0 (Stood place) else refused me.0 page n), me.1))
+      × ((j : ℕ) → HasInSpace told me.0 j page → n ≡ unit_word 0 (mark_by me.0 page) (j + 1))
 
   -- a load of a page's word
   abbrev pub looks : Told → ℕ → Step S → Me S View → ℕ → Me S View → Type 0
@@ -51,10 +53,10 @@ module _ {S : Type 0} where
   counts told c st me n me' =
       (limit told c ≤ n → me' ≡ (saw_full c me.0, me.1)) × (n < limit told c → me' ≡ (begins_draw c me.0, me.1))
 
-  -- a fetch of a counter; `drew` is what it is to have drawn a number
-  abbrev pub fetches : Told → ℕ → (View → ℕ → View) → Step S → Me S View → ℕ → Me S View → Type 0
-  fetches told c drew st me n me' =
-      (limit told c ≤ n → me' ≡ (saw_full c me.0, me.1)) × (n < limit told c → me' ≡ (drew me.0 n, me.1))
+  -- a fetch of a counter; `drew` is what it is to have drawn a number, which then is new
+  abbrev pub fetches : Told → ℕ → (View → ℕ → View) → (Told → View → ℕ → Type 0) → Step S → Me S View → ℕ → Me S View → Type 0
+  fetches told c drew new st me n me' =
+      (limit told c ≤ n → me' ≡ (saw_full c me.0, me.1)) × (n < limit told c → (me' ≡ (drew me.0 n, me.1)) × new told me.0 n)
 
 -- a page settled in a space, and as held
 module _ {V : Type 0} where

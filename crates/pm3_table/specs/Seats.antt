@@ -1,5 +1,5 @@
 -- How a view is cut in two, and how two are made one.
-use Rattle.std.specs.Prelude.{◌≡◌, ℕ, ◌+◌, ◌<◌, Bool, true, false, max, List, [], ◌∷◌, ◌++◌, length, drop, nat_lt, if◌then◌else◌}
+use Rattle.std.specs.Prelude.{◌≡◌, ℕ, ◌+◌, ◌<◌, true, false, max, List, [], ◌∷◌, ◌++◌, length, drop}
 use Rattle.pm3_core.specs.declared.events.TheConstants.{ROW_PLACES}
 use Rattle.pm3_history.specs.Entry.{Done}
 use Rattle.pm3_table.specs.declared.view.View.{View}

@@ -73,14 +73,33 @@ in_some_space told v (suc n) p =
 unfoldable pub knows_used : Told → View → ℕ → Bool
 knows_used told v p = is_steady told v p || (in_some_space told v 32 p || some_has (names_page told) v.seen p)
 
+-- no commit that the view has seen makes the name, the graph that was opened hasn't it, and the view hasn't drawn it
+pub record IsNewName (told : Told) (v : View) (n : ℕ) : Type 0 where
+  pub from : told.next_name ≤ n
+  pub undrawn : is_in n v.names ≡ false
+  pub unmade : some_has makes v.seen n ≡ false
+
+-- no image that the view has seen has or names the page, and it is none that the view knows to be persistent, or of a space that it
+-- holds
+pub record IsNewPage (told : Told) (v : View) (p : ℕ) : Type 0 where
+  pub from : told.frontier ≤ p
+  pub elsewhere : (j : ℕ) → HasInSpace told v j p → ⊥
+  pub unnamed : some_has (names_page told) v.seen p ≡ false
+  pub unknown : is_steady told v p ≡ false
+
+-- nothing is told of a number that was drawn
+abbrev pub IsAnyNumber : Told → View → ℕ → Type 0
+IsAnyNumber told v n = Unit {0}
+
 -- What a view that has seen the whole history knows of itself: the history is lawful, with the failed commits too; its own
--- commits are those that it counts; and its drawn names and pages are new.
+-- commits are those that it counts; its drawn names and pages are new; and no page of a space that it holds is persistent.
 pub record IsSound (told : Told) (v : View) (lost : List Done) : Type 0 where
   pub lawful : Lawful told v.seen
   pub lawful_lost : Lawful told (v.seen ++ lost)
   pub own : v.mine ≡ by v.row v.seen
   pub new_names : (n : ℕ) → is_in n v.names ≡ true → (told.next_name ≤ n) × (some_has makes v.seen n ≡ false)
   pub new_pages : (p : ℕ) → is_in p v.pages ≡ true → (told.frontier ≤ p) × (some_has (names_page told) v.seen p ≡ false)
+  pub apart : (j p : ℕ) → HasInSpace told v j p → is_steady told v p ≡ false
 
 -- The commits `more` may join the history that the view has seen, and `failed` be kept as failed beside `lost`.
 pub record MayJoin (told : Told) (v : View) (more failed : List Done) : Type 0 where

@@ -1,5 +1,5 @@
 //! Values of slots.
-ghost use Rattle.std.specs.Prelude.{◌≡◌, ◌≢◌, ℕ, false, List, [], ◌∷◌, ◌++◌};
+ghost use Rattle.std.specs.Prelude.{◌≡◌, ◌≢◌, ℕ, IsTrue, false, List, [], ◌∷◌, ◌++◌};
 ghost use Rattle.pm3_history.specs.Entry.{Done};
 ghost use Rattle.pm3_history.specs.Opens.{Origin};
 ghost use Rattle.pm3_table.specs.declared.view.Told.{Told};
@@ -17,8 +17,10 @@ pub trait Chronicle {
     // The faults that the turn's value has counted.
     ghost counted: { Self → ℕ };
 
-    /// Whether it is a value that goes with the turn. The table does not ask, but a trait has laws only beside a call.
-    fn is_turn(&self) -> bool;
+    /// Whether it is a value that goes with the turn, and so stands for no other unit. The table does not ask, but a trait has
+    /// laws only beside a call.
+    fn is_turn(&self) -> bool
+        ensures turn { IsTrue result → (told : Told) (lost h : List Done) (u : ℕ) → stands told lost h u self.now → u ≡ turn_unit told.pages };
 
     // A commit that does not name the unit leaves what stands for it.
     ghost frame: { (told : Told) (lost h : List Done) (e : Done) (u : ℕ) (x : Self) → names told e u ≡ false

@@ -21,8 +21,8 @@ impl<V: Chronicle> Shared<V> {
     pub fn close(self, alloc: Global, pass: Pass<V>) -> Result<Homes<V>, CloseFault<V>>
         requires of { IsOf pass self }
         requires bare { (u : ℕ) → holds_of pass.1.holds u ≡ false }
-        ensures ok { IfOk result (λ homes. IsClosed V.stands self.1 pass.1 (length pass.1.kept + 1) homes) }
-        ensures err { IfErr result (IsCloseFault V.stands self pass) }
+        ensures ok { IfOk result (λ homes. IsClosed V.stands V.counted self.1 pass.1 (length pass.1.kept + 1) homes) }
+        ensures err { IfErr result (IsCloseFault V.stands V.counted self pass) }
     {
         match ended(self, pass) {
             Ok(closed) => match gathered(alloc, closed) {
@@ -41,8 +41,8 @@ fn ended<V: Chronicle>(
 ) -> Result<Closed<Option<V>, Global>, CloseFault<V>>
     requires of { IsOf pass shared }
     requires bare { (u : ℕ) → holds_of pass.1.holds u ≡ false }
-    ensures ok { IfOk result (λ closed. IsFull closed.slots × (33 ≤ slots_len closed.slots) × IsClosed V.stands shared.1 pass.1 (length pass.1.kept + 1) (slots_items closed.slots)) }
-    ensures err { IfErr result (IsCloseFault V.stands shared pass) }
+    ensures ok { IfOk result (λ closed. IsFull closed.slots × (33 ≤ slots_len closed.slots) × IsClosed V.stands V.counted shared.1 pass.1 (length pass.1.kept + 1) (slots_items closed.slots)) }
+    ensures err { IfErr result (IsCloseFault V.stands V.counted shared pass) }
 {
     let at = PLACES + (shared.pages as usize + 33) + 2;
     let made = shared

@@ -6,6 +6,7 @@ ghost use Rattle.pm3_table.specs.declared.view.View.{View};
 ghost use Rattle.pm3_table.specs.Starting.{blank_told, spent_view};
 ghost use Rattle.pm3_table.specs.Seats.{left_view, new_view, both_views, first_of};
 ghost use Rattle.pm3_table.specs.Ops.{drew_page, drew_name, drew_row};
+ghost use Rattle.pm3_table.specs.Telling.{IsNewName, IsNewPage, IsAnyNumber};
 ghost use Rattle.pm3_table.specs.Plays.{stores, finds, validates, looks, recalls, marks, unmarks, counts, fetches, settles_in, settles_held, reaches, gives, turns, takes, lasts};
 
 use crate::chronicle::Chronicle;
@@ -59,7 +60,7 @@ pub(crate) struct Validates<J> {
 }
 
 impl<V, J: Aim> Play<Option<V>, View> for Validates<J> {
-    ghost then = { validates J.in_row J.at };
+    ghost then = { validates J.told J.in_row J.at };
 }
 
 pub(crate) struct Looks<J> {
@@ -118,7 +119,7 @@ pub(crate) struct FetchesPage<J> {
 }
 
 impl<V, J: Aim> Play<Option<V>, View> for FetchesPage<J> {
-    ghost then = { fetches J.told 0 drew_page };
+    ghost then = { fetches J.told 0 drew_page IsNewPage };
 }
 
 pub(crate) struct FetchesName<J> {
@@ -126,7 +127,7 @@ pub(crate) struct FetchesName<J> {
 }
 
 impl<V, J: Aim> Play<Option<V>, View> for FetchesName<J> {
-    ghost then = { fetches J.told 1 drew_name };
+    ghost then = { fetches J.told 1 drew_name IsNewName };
 }
 
 pub(crate) struct FetchesRow<J> {
@@ -134,7 +135,7 @@ pub(crate) struct FetchesRow<J> {
 }
 
 impl<V, J: Aim> Play<Option<V>, View> for FetchesRow<J> {
-    ghost then = { fetches J.told 2 drew_row };
+    ghost then = { fetches J.told 2 drew_row IsAnyNumber };
 }
 
 pub(crate) struct SettlesIn<J> {

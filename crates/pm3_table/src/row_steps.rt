@@ -73,8 +73,9 @@ fn validate_at<V: Chronicle, J: Aim>(
     requires of { IsOf pass.old shared.now }
     requires low { place < ROW_PLACES }
     requires named { Names shared.now.1.pages (word_of pass.old.1.log place) page }
-    requires aim { (J.in_row ≡ place) × (J.at ≡ page) }
-    ensures { Becomes pass.old pass.new (if mark_in result == 0 then did pass.old.1 (Stood place) else refused pass.old.1 page result) }
+    requires aim { (J.told ≡ shared.now.1) × (J.in_row ≡ place) × (J.at ≡ page) }
+    ensures view { Becomes pass.old pass.new (if mark_in result == 0 then did pass.old.1 (Stood place) else refused pass.old.1 page result) }
+    ensures own { (j : ℕ) → HasInSpace shared.now.1 pass.old.1 j page → result ≡ unit_word 0 (mark_by pass.old.1 page) (j + 1) }
 {
     let at = PLACES + page as usize;
     shared.table.shared.load::<Validates<J>>(&mut pass.seat, at)
@@ -91,7 +92,8 @@ pub fn load_named<V: Chronicle>(
     requires of { IsOf pass.old shared.now }
     requires low { place < ROW_PLACES }
     requires named { Names shared.now.1.pages (word_of pass.old.1.log place) page }
-    ensures { Becomes pass.old pass.new (if mark_in result == 0 then did pass.old.1 (Stood place) else refused pass.old.1 page result) }
+    ensures view { Becomes pass.old pass.new (if mark_in result == 0 then did pass.old.1 (Stood place) else refused pass.old.1 page result) }
+    ensures own { (j : ℕ) → HasInSpace shared.now.1 pass.old.1 j page → result ≡ unit_word 0 (mark_by pass.old.1 page) (j + 1) }
 {
     validate_at::<V, Brand>(shared, pass, place, page)
 }

@@ -32,7 +32,7 @@ returns-clause-ok g c = let key = c.shared.inside.table.shared.key in let v = g.
     let slots = slots_items c.close_with.result.slots in (
       values.1,
       omega (arith, c.close_with.ensures.counts.1, c.shared.invariant.slots),
-      outside _ _ me.0 t _ _ c.pass.view_is c.shared.view_is (λ p s. IsClosed v.stands s.1 p.1 (length p.1.kept + 1) slots)
+      outside _ _ me.0 t _ _ c.pass.view_is c.shared.view_is (λ p s. IsClosed v.stands v.counted s.1 p.1 (length p.1.kept + 1) slots)
           (closes v.stands v.spans v.counted t _ me.0 made _ slots c.pass.invariant.live bare c.pass.invariant.rows
           (subst (λ (w : View). Final (Seen (Ruled v.stands v.spans v.counted t) c.load.new.seat.id w) (slots_items c.close_with.result.words) slots) now values.2)),
     )

@@ -36,7 +36,7 @@ split_seat-seat-requires g c = let key = c.shared.inside.table.shared.key in let
     let begun : c.load-seen.new.seat.me ≡ (begins_draw 2 me.0, me.1) = c.load-seen.ensures.2.1 (subst (λ (x : Told). c.load-seen.result < limit x 2) (sym (c.requires.aim ∙ told_is)) (omega (arith, c.shared.invariant.pages_are, c.if-seen-ge32.false))) in
     let n : ℕ = c.fetch_add-row.result in
     let below : n < 32 = omega (arith, c.if-row-ge32.false) in
-    let drew_it : c.fetch_add-row.new.seat.me.0 ≡ drew_row me.0 n = ap (λ m. m.0) (c.fetch_add-row.ensures.2.1 below) ∙ ap (λ m. drew_row m.0 n) begun in (
+    let drew_it : c.fetch_add-row.new.seat.me.0 ≡ drew_row me.0 n = ap (λ m. m.0) (c.fetch_add-row.ensures.2.1 below).0 ∙ ap (λ m. drew_row m.0 n) begun in (
       search rules,
       search rules,
       split_call v.stands v.spans v.counted t _ me.0 c.pass.invariant.live n c.fetch_add-row.new.seat.me.0 drew_it,
