@@ -1,5 +1,5 @@
 -- A transaction that goes on call after call.
-use Rattle.std.proofs.Common.{◌≡◌, ◌∙◌, ℕ, Bool, true, List, [], Option, refl, sym, ap, subst}
+use Rattle.std.proofs.Common.{◌≡◌, ◌<◌, ◌∙◌, ℕ, Bool, true, List, Option, length, refl, sym, ap, subst, arith}
 use Rattle.atomic_table.specs.Seated.{TableId}
 use Rattle.pm3_core.specs.declared.naming.TheConstants.{BASE}
 use Rattle.pm3_graph.specs.declared.operations.Op.{Op}
@@ -7,38 +7,64 @@ use Rattle.pm3_access.specs.Holding.{Holding}
 use Rattle.pm3_history.specs.Entry.{Done}
 use Rattle.pm3_history.specs.State.{State, now}
 use Rattle.pm3_table.specs.declared.unit.Busy.{Busy}
-use Rattle.pm3_table.specs.declared.view.Hold.{Hold}
 use Rattle.pm3_table.specs.declared.view.Told.{Told}
 use Rattle.pm3_table.specs.declared.view.View.{View}
-use Rattle.pm3_table.specs.Holds.{holds_of}
+use Rattle.pm3_table.specs.Deeds.{word_of}
+use Rattle.pm3_table.specs.Holds.{is_in}
+use Rattle.pm3_txn.specs.DrawnLaws.{IsAlike}
+use Rattle.pm3_txn.specs.Owners.{AdvancesOn, IsHolding, KnowsWordHere, RemembersHere}
 use Rattle.pm3_txn.specs.Placing.{IsPlaced, IsRefusedPlace, IsCleared}
 use Rattle.pm3_txn.specs.Puts.{HasPut, IsPinned, IsMarked}
-use Rattle.pm3_txn.specs.Runs.{Runs, GoesOn}
 use Rattle.pm3_txn.specs.States.{MutatorState, TxnState, told_in, view_in}
 use Rattle.pm3_txn.specs.Touching.{Advances, nothing_more}
-use Rattle.pm3_txn.specs.Underway.{Belongs, IsUnder, IsUnderway}
-use Rattle.pm3_txn.proofs.Taking.{under_later}
-use Rattle.pm3_txn.proofs.Touched.{no_more}
+use Rattle.pm3_txn.specs.Underway.{IsMutatorOf, IsUnderway}
+use Rattle.pm3_txn.specs.Works.{Works}
+use Rattle.pm3_txn.proofs.Keeping.{keeps_same, objects_both, row_kept, row_written}
+use Rattle.pm3_txn.proofs.OwnerDraws.{holdings_draw}
 
 -- one call after another
 pub advances_both : {R : Type 0} (old mid new : TxnState R) (first second : State → List (Op × ℕ) → List (Op × ℕ)) → mid.heap ≡ old.heap
     → Advances old mid first → Advances mid new second → Advances old new (λ st done. second st (first st done))
 advances_both old mid new first second same before after =
-    let then : GoesOn (told_in old) (view_in mid) mid.held (view_in new) new.held second = subst (λ (heap : TableId × Told). GoesOn heap.1 (view_in mid) mid.held (view_in new) new.held second) same after in
-    λ st opens done runs. then st opens (first st done) (before st opens done runs)
+    let then : AdvancesOn (told_in old) (view_in mid) mid.held (view_in new) new.held second =
+    subst (λ (heap : TableId × Told). AdvancesOn heap.1 (view_in mid) mid.held (view_in new) new.held second) same after in
+    record {
+      works = λ st opens done works. then.works st opens (first st done) (before.works st opens done works);
+      keeps = objects_both (told_in old) (view_in old) (view_in mid) (view_in new) old.held mid.held new.held before.keeps then.keeps;
+    }
 
 -- a view that has seen nothing more
-pub goes_still : (told : Told) (v w : View) (h : Holding) → w.seen ≡ v.seen → GoesOn told v h w h nothing_more
-goes_still told v w h seen st opens done runs = subst (λ (l : List Done). Runs told.opening.catalog (now told.opening.catalog BASE st l) h done) (sym seen) runs
+pub goes_still : (told : Told) (v w : View) (h : Holding) → w.seen ≡ v.seen → AdvancesOn told v h w h nothing_more
+goes_still told v w h seen = record {
+  works = λ st opens done works. subst (λ (l : List Done). Works told.opening.catalog told.pages (now told.opening.catalog BASE st l) h done) (sym seen) works;
+  keeps = (keeps_same told v w h seen).objects;
+}
+
+-- which did something with its row alone, or was refused
+pub alike_by : (v w : View) → w ≡ record v { log = w.log; refusals = w.refusals } → IsAlike v w
+alike_by v w is = record {
+  seen = ap (λ (x : View). x.seen) is;
+  holds = ap (λ (x : View). x.holds) is;
+  steady = ap (λ (x : View). x.steady) is;
+  names = λ n has. ap (λ (x : View). is_in n x.names) is ∙ has;
+}
+
+pub holding_by : (told : Told) (v w : View) (number : ℕ) (h : Holding) → w ≡ record v { log = w.log; refusals = w.refusals } → IsHolding told v number h → IsHolding told w number h
+holding_by told v w number h is holding = (holdings_draw told v w number h (alike_by v w is) (ap (λ (x : View). x.spans) is) holding).1
+
+-- a transaction over the heap, at the moment of this mutator and what is held
+abbrev pub moment : {R : Type 0} → TableId × Told → ℕ → MutatorState R → Holding → TxnState R
+moment heap tag m h = record { heap = heap; mutator = m; held = h; tag = tag }
 
 module _ {R : Type 0} (content : R → Option (List ℕ)) (heap : TableId × Told) (m n : MutatorState R) (h : Holding) (tag : ℕ) where
-  abbrev pub at_moment : MutatorState R → TxnState R
-  at_moment x = record { heap = heap; mutator = x; held = h; tag = tag }
-
-  pub still_under : IsUnder heap.1 m.pass.1 h → n.pass.1.seen ≡ m.pass.1.seen → n.pass.1.holds ≡ m.pass.1.holds → Belongs content heap n → IsUnderway content (at_moment n)
-  still_under under seen holds kept = record {
-    belongs = kept;
-    under = under_later heap.1 m.pass.1 n.pass.1 h [] under (seen ∙ no_more m.pass.1.seen) kept.lawful (λ u _. refl) (λ u. ap (λ (hs : List Hold). holds_of hs u) holds);
+  -- with the words of its row as they were
+  pub still_underway : n.pass.1 ≡ record m.pass.1 { log = n.pass.1.log; refusals = n.pass.1.refusals } → ((q : ℕ) → word_of n.pass.1.log q ≡ word_of m.pass.1.log q)
+      → n.refs ≡ m.refs → n.wrote ≡ m.wrote → n.space ≡ m.space → IsUnderway content (moment heap tag m h) → IsMutatorOf content heap n → IsUnderway content (moment heap tag n h)
+  still_underway view words refs wrote space was kept = record {
+    mutator = kept;
+    known = subst (λ (l : List Bool × List Bool). RemembersHere heap.1 n.pass.1 h l.0 l.1) (λ i. (sym refs i, sym wrote i))
+        (row_kept heap.1 m.pass.1 n.pass.1 h h (keeps_same heap.1 m.pass.1 n.pass.1 h (ap (λ (x : View). x.seen) view)) m.refs m.wrote words was.known);
+    holding = subst (λ (k : ℕ). IsHolding heap.1 n.pass.1 k h) (sym space) (holding_by heap.1 m.pass.1 n.pass.1 m.space h view was.holding);
   }
 
   -- a word was put at a place of the row
@@ -46,14 +72,20 @@ module _ {R : Type 0} (content : R → Option (List ℕ)) (heap : TableId × Tol
     same_seen : n.pass.1.seen ≡ m.pass.1.seen
     same_seen = ap (λ (v : View). v.seen) put.view.1
 
-    pub put_under : IsUnder heap.1 m.pass.1 h → Belongs content heap n → IsUnderway content (at_moment n)
-    put_under under kept = still_under under same_seen (ap (λ (v : View). v.holds) put.view.1) kept
+    pub put_underway : j < 512 → (is_ref ≡ true → KnowsWordHere heap.1 m.pass.1 h word) → IsUnderway content (moment heap tag m h) → IsMutatorOf content heap n → IsUnderway content (moment heap tag n h)
+    put_underway low knows was kept = record {
+      mutator = kept;
+      known = subst (λ (l : List Bool × List Bool). RemembersHere heap.1 n.pass.1 h l.0 l.1) (λ i. (sym put.refs i, sym put.wrote i))
+          (row_written heap.1 m.pass.1 n.pass.1 h h (keeps_same heap.1 m.pass.1 n.pass.1 h same_seen) m.refs m.wrote j word is_ref
+          (let long : length m.refs ≡ 512 = was.mutator.tags.0 in omega (arith, long, low)) (let long : length m.wrote ≡ 512 = was.mutator.tags.1 in omega (arith, long, low)) put.words knows was.known);
+      holding = subst (λ (k : ℕ). IsHolding heap.1 n.pass.1 k h) (sym put.space) (holding_by heap.1 m.pass.1 n.pass.1 m.space h put.view.1 was.holding);
+    }
 
-    pub put_placed : IsPinned heap.1.pages n j → n.pass.1.refusals ≡ m.pass.1.refusals → IsPlaced (at_moment m) (at_moment n) j word is_ref
+    pub put_placed : IsPinned heap.1.pages n j → n.pass.1.refusals ≡ m.pass.1.refusals → IsPlaced (moment heap tag m h) (moment heap tag n h) j word is_ref
     put_placed pinned calm = record { rest = refl; put = put; pinned = pinned; calm = calm; goes_on = goes_still heap.1 m.pass.1 n.pass.1 h same_seen }
 
-  pub put_marked : (j word : ℕ) (busy : Busy) → HasPut m n j 0 true → IsMarked heap.1.pages word m n busy → IsRefusedPlace (at_moment m) (at_moment n) j word busy
+  pub put_marked : (j word : ℕ) (busy : Busy) → HasPut m n j 0 true → IsMarked heap.1.pages word m n busy → IsRefusedPlace (moment heap tag m h) (moment heap tag n h) j word busy
   put_marked j word busy put marked = record { rest = refl; put = put; marked = marked; goes_on = goes_still heap.1 m.pass.1 n.pass.1 h (ap (λ (v : View). v.seen) put.view.1) }
 
-  pub put_cleared : (j : ℕ) → HasPut m n j 0 true → n.pass.1.refusals ≡ m.pass.1.refusals → IsCleared (at_moment m) (at_moment n) j
+  pub put_cleared : (j : ℕ) → HasPut m n j 0 true → n.pass.1.refusals ≡ m.pass.1.refusals → IsCleared (moment heap tag m h) (moment heap tag n h) j
   put_cleared j put calm = record { rest = refl; put = put; calm = calm; goes_on = goes_still heap.1 m.pass.1 n.pass.1 h (ap (λ (v : View). v.seen) put.view.1) }

@@ -23,23 +23,25 @@ use Rattle.pm3_access.proofs.HeldSheets.{changed, changed_here, written_is}
 use Rattle.pm3_access.proofs.Homes.{is_some_none}
 use Rattle.pm3_access.proofs.RecordPlaces.{byte_is, if_spot}
 use Rattle.pm3_access.proofs.RecordWrites.{with_value_is, word_written}
+use Rattle.pm3_history.specs.Opens.{Opens}
 use Rattle.pm3_history.specs.State.{State}
 use Rattle.pm3_history.proofs.Laying.{one_value}
 use Rattle.pm3_table.specs.declared.view.Told.{Told}
 use Rattle.pm3_table.specs.declared.view.View.{View}
-use Rattle.pm3_table.specs.Telling.{Lawful}
-use Rattle.pm3_txn.specs.Answers.{with_step, writes_as}
+use Rattle.pm3_txn.specs.Answers.{with_step}
 use Rattle.pm3_txn.specs.ByteRuns.{has_byte, HasRun, IsFirstMissing, HasBytes, bytes_read, HasReadBytes, HasNewBytes, bytes_written, HasStoredBytes, HasWrittenBytes}
-use Rattle.pm3_txn.specs.Knowing.{KnowsObject, is_in_use, name_at}
+use Rattle.pm3_txn.specs.Knowing.{state_seen}
 use Rattle.pm3_txn.specs.ObjectValues.{HasNewValue, Lacks, tail_held}
 use Rattle.pm3_txn.specs.PlaceAccess.{HasStored}
 use Rattle.pm3_txn.specs.Refusals.{HasObject}
-use Rattle.pm3_txn.specs.Runs.{GoesOn}
+use Rattle.pm3_txn.specs.Owners.{WorksOn, AdvancesOn, IsHolding, KnowsHere, name_here, own_use}
 use Rattle.pm3_txn.specs.States.{TxnState, told_in, view_in}
-use Rattle.pm3_txn.specs.Touching.{Advances, nothing_more}
-use Rattle.pm3_txn.specs.Underway.{IsUnder, IsUnderway}
+use Rattle.pm3_txn.specs.Touching.{nothing_more}
+use Rattle.pm3_txn.specs.Underway.{IsUnderway}
+use Rattle.pm3_txn.specs.Works.{Works}
 use Rattle.pm3_txn.proofs.Advancing.{advances_both}
-use Rattle.pm3_txn.proofs.Answering.{read_advances}
+use Rattle.pm3_txn.proofs.Keeping.{keeps_same, name_on, objects_both}
+use Rattle.pm3_txn.proofs.OwnerAnswers.{holdings_read}
 
 some_map : {S A : Type 0} (f : S → A) (o : Option S) → is_some (option_map f o) ≡ is_some o
 some_map f None = refl
@@ -178,17 +180,20 @@ byte_stays told h new a place x is_ref has = of (image_in h (page_in BASE a)) re
         (sym (ap (λ (o : Option PageImage). option_map (changed h (page_in BASE a)) (written_by told.opening.catalog o w place x)) on) ∙ written)
 
 -- bytes that were read are operations
-module _ (told : Told) (v : View) (h : Holding) (under : IsUnder told v h) (lawful : Lawful told v.seen) (a : ℕ) (known : KnowsObject told v a) (object : is_object_held BASE h a ≡ true) where
-  pub bytes_go : (from : ℕ) (xs : List ℕ) → HasBytes told h a from xs → GoesOn told v h v h (bytes_read told v a from xs)
+module _ (told : Told) (v : View) (number : ℕ) (h : Holding) (holding : IsHolding told v number h) (a : ℕ) (known : KnowsHere told v h a) (object : is_object_held BASE h a ≡ true) where
+  bytes_go : (from : ℕ) (xs : List ℕ) → HasBytes told h a from xs → WorksOn told v h v h (bytes_read told v h a from xs)
   bytes_go from [] has st opens done runs = runs
   bytes_go from (x ∷ xs) has st opens done runs =
-      let map = map_of told.opening.catalog BASE (is_in_use told v.seen) h a under.form object in
+      let map = map_of told.opening.catalog BASE (own_use told v h) h a holding.form object in
       let first : value_held told.opening.catalog BASE h a (Byte from) ≡ Some x =
       (let same : from ≡ from + 0 = omega arith in ap (λ (n : ℕ). value_held told.opening.catalog BASE h a (Byte n)) same ∙ has 0 (omega arith)) in
       bytes_go (from + 1) xs
       (λ k low. (let same : from + 1 + k ≡ from + suc k = omega arith in
       ap (λ (n : ℕ). value_held told.opening.catalog BASE h a (Byte n)) same ∙ has (suc k) (omega (arith, low))))
-      st opens (with_step done (operation.Byte (name_at told v st a) from) x) (read_advances told v h under lawful a known map.0 object map.1 (Byte from) x first st opens done runs)
+      st opens (with_step done (operation.Byte (name_here told v h st a) from) x) ((holdings_read told v number h a x map.0 (Byte from) holding known object map.1 first).0 st opens done runs)
+
+  pub bytes_advance : (from : ℕ) (xs : List ℕ) → HasBytes told h a from xs → AdvancesOn told v h v h (bytes_read told v h a from xs)
+  bytes_advance from xs has = record { works = bytes_go from xs has; keeps = (keeps_same told v v h refl).objects }
 
 -- one byte more was written
 new_more : (told : Told) (a : ℕ) (old mid new : Holding) (from : ℕ) (xs : List ℕ) (x : ℕ) → HasNewBytes told old mid a from xs → HasNewValue told mid new a (Byte (from + length xs)) false x
@@ -202,43 +207,54 @@ new_more told a old mid new from (y ∷ ys) x has last = (
       (let same : from + suc (length ys) ≡ from + 1 + length ys = omega arith in subst (λ (n : ℕ). HasNewValue told mid new a (Byte n) false x) same last),
 )
 
-written_more : (told : Told) (v : View) (a from : ℕ) (xs : List ℕ) (x : ℕ) (st : State) (done : List (Op × ℕ))
-    → with_step (bytes_written told v a from xs st done) (operation.SetByte (name_at told v st a) (from + length xs) x) 0 ≡ bytes_written told v a from (xs ++ x ∷ []) st done
-written_more told v a from [] x st done = (let same : from + 0 ≡ from = omega arith in ap (λ (n : ℕ). with_step done (operation.SetByte (name_at told v st a) n x) 0) same)
-written_more told v a from (y ∷ ys) x st done =
+-- it is the last operation
+written_more : (told : Told) (v : View) (h : Holding) (a from : ℕ) (xs : List ℕ) (x : ℕ) (st : State) (done : List (Op × ℕ))
+    → with_step (bytes_written told v h a from xs st done) (operation.SetByte (name_here told v h st a) (from + length xs) x) 0 ≡ bytes_written told v h a from (xs ++ x ∷ []) st done
+written_more told v h a from [] x st done = (let same : from + 0 ≡ from = omega arith in ap (λ (n : ℕ). with_step done (operation.SetByte (name_here told v h st a) n x) 0) same)
+written_more told v h a from (y ∷ ys) x st done =
     let same : from + suc (length ys) ≡ from + 1 + length ys = omega arith in
-    ap (λ (n : ℕ). with_step (bytes_written told v a (from + 1) ys st (with_step done (operation.SetByte (name_at told v st a) from y) 0)) (operation.SetByte (name_at told v st a) n x) 0) same
-    ∙ written_more told v a (from + 1) ys x st (with_step done (operation.SetByte (name_at told v st a) from y) 0)
+    ap (λ (n : ℕ). with_step (bytes_written told v h a (from + 1) ys st (with_step done (operation.SetByte (name_here told v h st a) from y) 0)) (operation.SetByte (name_here told v h st a) n x) 0) same
+    ∙ written_more told v h a (from + 1) ys x st (with_step done (operation.SetByte (name_here told v h st a) from y) 0)
 
 module _ {R : Type 0} where
   pub stored_none : (t : TxnState R) (a from : ℕ) → HasStoredBytes t t a from []
-  stored_none t a from = record { rest = refl; bytes = refl; goes_on = λ st opens done runs. runs }
+  stored_none t a from = record { rest = refl; bytes = refl; goes_on = record { works = λ st opens done works. works; keeps = (keeps_same (told_in t) (view_in t) (view_in t) t.held refl).objects } }
 
-  pub stored_more : (old mid new : TxnState R) (a from k x : ℕ) (xs : List ℕ) → length xs ≡ k → HasStoredBytes old mid a from xs → HasStored mid new a (Byte (from + k)) false x
-      → HasStoredBytes old new a from (xs ++ x ∷ [])
-  stored_more old mid new a from k x xs long run stored = record {
-    rest = stored.rest ∙ ap (λ (t : TxnState R). record t { held = new.held }) run.rest;
-    bytes = new_more (told_in old) a old.held mid.held new.held from xs x run.bytes
-        (subst (λ (n : ℕ). HasNewValue (told_in old) mid.held new.held a (Byte (from + n)) false x) (sym long)
-        (subst (λ (t : Told). HasNewValue t mid.held new.held a (Byte (from + k)) false x) (ap (λ (t : TxnState R). told_in t) run.rest) stored.value));
-    goes_on = subst (Advances old new) more
-        (advances_both old mid new (bytes_written (told_in old) (view_in old) a from xs) (writes_as (told_in mid) (view_in mid) a stored.value.map (Byte (from + k)) x)
-        (ap (λ (t : TxnState R). t.heap) run.rest) run.goes_on stored.goes_on);
+  stored_both : (old new : TxnState R) (a from k x : ℕ) (xs : List ℕ) → length xs ≡ k → KnowsHere (told_in old) (view_in old) old.held a → (h : Holding) → HasNewBytes (told_in old) old.held h a from xs
+      → AdvancesOn (told_in old) (view_in old) old.held (view_in old) h (bytes_written (told_in old) (view_in old) old.held a from xs)
+      → HasStored (record old { held = h }) new a (Byte (from + k)) false x → HasStoredBytes old new a from (xs ++ x ∷ [])
+  stored_both old new a from k x xs long known h bytes goes stored = record {
+    rest = stored.rest;
+    bytes = new_more (told_in old) a old.held h new.held from xs x bytes
+        (subst (λ (n : ℕ). HasNewValue (told_in old) h new.held a (Byte (from + n)) false x) (sym long) stored.value);
+    goes_on = record {
+      works = λ st opens done works. subst (Works (told_in old).opening.catalog (told_in old).pages (state_seen (told_in old) (view_in new) st) new.held) (more st opens done)
+          (stored.goes_on.works st opens (bytes_written (told_in old) (view_in old) old.held a from xs st done) (goes.works st opens done works));
+      keeps = objects_both (told_in old) (view_in old) (view_in old) (view_in new) old.held h new.held goes.keeps stored.goes_on.keeps;
+    };
   }
     where
-      more : (λ (st : State) (done : List (Op × ℕ)). writes_as (told_in mid) (view_in mid) a stored.value.map (Byte (from + k)) x st (bytes_written (told_in old) (view_in old) a from xs st done))
-          ≡ bytes_written (told_in old) (view_in old) a from (xs ++ x ∷ [])
-      more =
-          (λ i st done. writes_as (told_in (run.rest i)) (view_in (run.rest i)) a stored.value.map (Byte (from + k)) x st (bytes_written (told_in old) (view_in old) a from xs st done))
-          ∙ (λ i st done. with_step (bytes_written (told_in old) (view_in old) a from xs st done) (operation.SetByte (name_at (told_in old) (view_in old) st a) (from + sym long i) x) 0)
-          ∙ (λ i st done. written_more (told_in old) (view_in old) a from xs x st done i)
+      more : (st : State) → Opens BASE (told_in old).pages (told_in old).opening st → (done : List (Op × ℕ))
+          → with_step (bytes_written (told_in old) (view_in old) old.held a from xs st done) (operation.SetByte (name_here (told_in old) (view_in old) h st a) (from + k) x) 0
+          ≡ bytes_written (told_in old) (view_in old) old.held a from (xs ++ x ∷ []) st done
+      more st opens done =
+          let same = name_on (told_in old) (view_in old) (view_in old) old.held h goes.keeps a known st opens in
+          (λ i. with_step (bytes_written (told_in old) (view_in old) old.held a from xs st done) (operation.SetByte (same i) (from + sym long i) x) 0)
+          ∙ written_more (told_in old) (view_in old) old.held a from xs x st done
+
+  pub stored_more : (old mid new : TxnState R) (a from k x : ℕ) (xs : List ℕ) → length xs ≡ k → KnowsHere (told_in old) (view_in old) old.held a → HasStoredBytes old mid a from xs
+      → HasStored mid new a (Byte (from + k)) false x → HasStoredBytes old new a from (xs ++ x ∷ [])
+  stored_more old mid new a from k x xs long known run stored =
+      stored_both old new a from k x xs long known mid.held run.bytes
+      (subst (λ (t : TxnState R). AdvancesOn (told_in old) (view_in old) old.held (view_in t) mid.held (bytes_written (told_in old) (view_in old) old.held a from xs)) run.rest run.goes_on)
+      (subst (λ (t : TxnState R). HasStored t new a (Byte (from + k)) false x) run.rest stored)
 
   -- one byte more of a list was written
-  pub store_step : (old mid new : TxnState R) (a from k x : ℕ) (bytes : List ℕ) → k < length bytes → get_or bytes k 0 ≡ x → HasStoredBytes old mid a from (take k bytes)
+  pub store_step : (old mid new : TxnState R) (a from k x : ℕ) (bytes : List ℕ) → k < length bytes → get_or bytes k 0 ≡ x → KnowsHere (told_in old) (view_in old) old.held a → HasStoredBytes old mid a from (take k bytes)
       → HasStored mid new a (Byte (from + k)) false x → HasStoredBytes old new a from (take (k + 1) bytes) × StaysObject (told_in old) mid.held new.held a
-  store_step old mid new a from k x bytes low is run stored = (
+  store_step old mid new a from k x bytes low is known run stored = (
     subst (HasStoredBytes old new a from) (sym (take_more bytes k 0 low ∙ ap (λ (n : ℕ). take k bytes ++ n ∷ []) is))
-        (stored_more old mid new a from k x (take k bytes) (length-take-le k bytes (omega (arith, low))) run stored),
+        (stored_more old mid new a from k x (take k bytes) (length-take-le k bytes (omega (arith, low))) known run stored),
     byte_stays (told_in old) mid.held new.held a (Byte (from + k)) x false
         (subst (λ (t : Told). HasNewValue t mid.held new.held a (Byte (from + k)) false x) (ap (λ (t : TxnState R). told_in t) run.rest) stored.value),
   )
@@ -250,8 +266,8 @@ module _ {R : Type 0} where
     address = a;
     object = object;
     bytes = has;
-    goes_on = advances_both old new new nothing_more (bytes_read (told_in new) (view_in new) a from xs) object.touched.same.heap object.touched.goes_on
-        (bytes_go (told_in new) (view_in new) new.held underway.under underway.belongs.lawful a object.known.object object.object from xs has);
+    goes_on = advances_both old new new nothing_more (bytes_read (told_in new) (view_in new) new.held a from xs) object.touched.same.heap object.touched.goes_on
+        (bytes_advance (told_in new) (view_in new) new.mutator.space new.held underway.holding a object.known object.object from xs has);
   }
 
   pub bytes_stored : (old mid new : TxnState R) (i a from : ℕ) (xs : List ℕ) → HasObject old mid i a → HasStoredBytes mid new a from xs → HasWrittenBytes old new i from xs
@@ -260,5 +276,5 @@ module _ {R : Type 0} where
     address = a;
     object = object;
     stored = stored;
-    goes_on = advances_both old mid new nothing_more (bytes_written (told_in mid) (view_in mid) a from xs) object.touched.same.heap object.touched.goes_on stored.goes_on;
+    goes_on = advances_both old mid new nothing_more (bytes_written (told_in mid) (view_in mid) mid.held a from xs) object.touched.same.heap object.touched.goes_on stored.goes_on;
   }

@@ -1,5 +1,5 @@
 -- A mutator gives back what a transaction held, and clears what it wrote.
-use Rattle.std.proofs.Common.{◌≡◌, ◌≢◌, ◌<◌, ◌≤◌, ◌+◌, ◌&&◌, ◌||◌, ◌∙◌, inl, inr, ℕ, Bool, true, false, nat_lt, if◌then◌else◌, List, is_some, length, get_or, get_or-set_same, get_or-set_other, slice_index_or, refl, sym, ap, subst, arith}
+use Rattle.std.proofs.Common.{◌≡◌, ◌≢◌, ◌⊎◌, ◌<◌, ◌≤◌, ◌+◌, ◌&&◌, ◌||◌, ◌∙◌, inl, inr, ℕ, Bool, true, false, nat_lt, if◌then◌else◌, List, Option, Some, None, is_some, length, get_or, get_or-set_same, get_or-set_other, slice_index_or, refl, sym, ap, subst, arith}
 use Rattle.std.proofs.Math.ListN.{set}
 use Rattle.std.proofs.lemmas.Bool.{cases_eq, ltb-true, ltb-false, lt-ltb, le-ltb, false≢true}
 use Rattle.std.proofs.lemmas.List.{get_or_past}
@@ -8,27 +8,72 @@ use Rattle.std.specs.FinMap.{contains_key}
 use Rattle.pm3_core.specs.Machine.{put}
 use Rattle.pm3_page.specs.PageMap.{Images}
 use Rattle.pm3_access.proofs.Moved.{get_gone, get_left}
-use Rattle.pm3_access.specs.Holding.{Holding}
+use Rattle.pm3_access.specs.Holding.{Holding, HeldSpaceState, SpaceState, IsUndone}
+use Rattle.atomic_table.specs.Seated.{TableId}
 use Rattle.pm3_table.specs.declared.view.Hold.{Hold}
 use Rattle.pm3_table.specs.declared.view.Told.{Told}
 use Rattle.pm3_table.specs.declared.view.View.{View}
-use Rattle.pm3_table.specs.Deeds.{word_of, stands_of, marks_of}
+use Rattle.pm3_table.specs.Deeds.{word_of}
 use Rattle.pm3_table.specs.Holds.{holds_of}
+use Rattle.pm3_table.specs.Words.{space_unit}
 use Rattle.pm3_table.specs.Ops.{gave}
 use Rattle.pm3_table.proofs.Put.{put_at, put_else}
-use Rattle.pm3_txn.specs.Aborting.{AreAll, AreOwed, HasCleared, HasOnlyGiven, was_written}
+use Rattle.pm3_txn.specs.Aborting.{AreAll, AreOwed, HasCleared, HasOnlyGiven, IsSpaceOwed, RemembersUnwritten, was_written}
 use Rattle.pm3_txn.specs.Puts.{HasPut}
-use Rattle.pm3_txn.specs.States.{MutatorState}
+use Rattle.pm3_txn.specs.States.{MutatorState, TxnState, told_in, view_in}
 use Rattle.pm3_txn.specs.Takes.{with_view}
-use Rattle.pm3_txn.specs.Underway.{IsUnder}
+use Rattle.pm3_txn.specs.Underway.{Belongs, IsMutatorOf, IsUnder, IsUnderway}
+use Rattle.pm3_txn.specs.Knowing.{KnowsWord}
+use Rattle.pm3_txn.specs.Owners.{HoldsSpace, MayHoldSpace, IsOwnUnit, IsHolding, KnowsPlace}
+use Rattle.pm3_txn.proofs.OwnerMakes.{holdings_undo}
+use Rattle.pm3_txn.proofs.Recalling.{same_word}
 use Rattle.pm3_txn.proofs.Taking.{found_held}
 
--- what a transaction found is owed, and it is all that it holds
-pub found_owed : (told : Told) (v : View) (h : Holding) → IsUnder told v h → AreOwed told v h.pages.found
-found_owed told v h under q image is = ((under.units q (found_held told v h under q image is)).0, under.found q image is)
+-- what a transaction found is owed
+pub found_owed : (told : Told) (v : View) (number : ℕ) (h : Holding) → IsHolding told v number h → AreOwed told v h.pages.found
+found_owed told v number h holding q image is = ((holding.units q (sym (holding.kept q) ∙ ap is_some is)).0, holding.found q image is)
 
-pub found_all : (told : Told) (v : View) (h : Holding) → IsUnder told v h → AreAll v h.pages.found
-found_all told v h under u is = under.kept u (under.only u is)
+-- so is its space, undone
+pub space_owed : (told : Told) (v : View) (number : ℕ) (h : Holding) (o : Option SpaceState) → IsHolding told v number h → IsUndone h.space o → IsSpaceOwed told v number o
+space_owed told v number h o holding undone = by h.space o refl undone
+  where
+    by : (s : Option HeldSpaceState) (o : Option SpaceState) → h.space ≡ s → IsUndone s o → IsSpaceOwed told v number o
+    by s None is undone = tt
+    by None (Some t) is undone = absurd undone
+    by (Some s) (Some t) is undone =
+        let held : (s.number ≡ number) × HoldsSpace told v s = subst (MayHoldSpace told v number) is holding.space in
+        let back = holdings_undo told v number h s t.room holding is in
+        subst (λ (x : SpaceState). IsSpaceOwed told v number (Some x)) (sym undone.0) (
+          ap (λ (n : ℕ). holds_of v.holds (space_unit told.pages n)) (sym held.0) ∙ held.1.unit,
+          back.0,
+          λ p. sym (back.1 p),
+        )
+
+-- and these are all that it holds
+pub found_all : (told : Told) (v : View) (number : ℕ) (h : Holding) (o : Option SpaceState) → IsHolding told v number h → IsUndone h.space o → AreAll told v number h.pages.found o
+found_all told v number h o holding undone u is = of (holding.only u is)
+  where
+    by : (s : Option HeldSpaceState) (o : Option SpaceState) → h.space ≡ s → IsUndone s o → IsOwnUnit told s u → (is_some o ≡ true) × (u ≡ space_unit told.pages number)
+    by None o at undone own = absurd own
+    by (Some s) None at undone own = absurd undone
+    by (Some s) (Some t) at undone own =
+        let held : (s.number ≡ number) × HoldsSpace told v s = subst (MayHoldSpace told v number) at holding.space in (refl, own ∙ ap (space_unit told.pages) held.0)
+
+    of : (is_some (map.get h.pages.left u) ≡ true) ⊎ IsOwnUnit told h.space u → (is_some (map.get h.pages.found u) ≡ true) ⊎ ((is_some o ≡ true) × (u ≡ space_unit told.pages number))
+    of (inl left) = inl (holding.kept u ∙ left)
+    of (inr own) = inr (by h.space o refl undone own)
+
+-- the same of a transaction that held pages alone
+pub alone_owed : (told : Told) (v : View) (h : Holding) → IsUnder told v h → (images : Images) → images ≡ h.pages.found → AreOwed told v images
+alone_owed told v h under images is =
+    subst (AreOwed told v) (sym is) (λ q image found. ((under.units q (found_held told v h under q image found)).0, under.found q image found))
+
+pub alone_space : (told : Told) (v : View) (number : ℕ) (h : Holding) → h.space ≡ None → (o : Option SpaceState) → IsUndone h.space o → IsSpaceOwed told v number o
+alone_space told v number h alone None undone = tt
+alone_space told v number h alone (Some t) undone = absurd (subst (λ (s : Option HeldSpaceState). IsUndone s (Some t)) alone undone)
+
+pub alone_all : (told : Told) (v : View) (number : ℕ) (h : Holding) → IsUnder told v h → (images : Images) (o : Option SpaceState) → images ≡ h.pages.found → AreAll told v number images o
+alone_all told v number h under images o is = subst (λ (m : Images). AreAll told v number m o) (sym is) (λ u held. inl (under.kept u (under.only u held)))
 
 -- once one was given back, the others are owed
 pub owed_less : (told : Told) (v : View) (images : Images) (page : ℕ) → AreOwed told v images → AreOwed told (gave v page) (map.remove images page)
@@ -37,18 +82,18 @@ owed_less told v images page owed q image is = elim (cases_eq q page) [
   | inr ne ↦ (let was = owed q image (sym (get_left images page q ne) ∙ is) in (put_else (holds_of v.holds) page false q ne ∙ was.0, was.1))
 ]
 
--- a mutator that gave all back holds nothing
-pub nothing_held_of : (holds : ℕ → Bool) (v : View) (images : Images) → AreAll v images → ((u : ℕ) → contains_key images u ≡ true → holds u ≡ false)
-    → ((u : ℕ) → contains_key images u ≡ false → holds u ≡ holds_of v.holds u) → (u : ℕ) → holds u ≡ false
-nothing_held_of holds v images all gone others u = of (contains_key images u) refl
+-- a mutator that gave all pages back holds its space alone, or nothing
+pub rest_held : (told : Told) (holds : ℕ → Bool) (v : View) (number : ℕ) (images : Images) (space : Option SpaceState) → AreAll told v number images space → ((u : ℕ) → contains_key images u ≡ true → holds u ≡ false)
+    → ((u : ℕ) → contains_key images u ≡ false → holds u ≡ holds_of v.holds u) → (u : ℕ) → holds u ≡ true → (is_some space ≡ true) × (u ≡ space_unit told.pages number)
+rest_held told holds v number images space all gone others u is = of (contains_key images u) refl
   where
-    bare : (b : Bool) → holds_of v.holds u ≡ b → contains_key images u ≡ false → holds_of v.holds u ≡ false
-    bare true is none = absurd (false≢true (sym none ∙ all u is))
-    bare false is none = is
+    rest : contains_key images u ≡ false → (contains_key images u ≡ true) ⊎ ((is_some space ≡ true) × (u ≡ space_unit told.pages number)) → (is_some space ≡ true) × (u ≡ space_unit told.pages number)
+    rest none (inl there) = absurd (false≢true (sym none ∙ there))
+    rest none (inr own) = own
 
-    of : (b : Bool) → contains_key images u ≡ b → holds u ≡ false
-    of true is = gone u is
-    of false is = others u is ∙ bare (holds_of v.holds u) refl is
+    of : (b : Bool) → contains_key images u ≡ b → (is_some space ≡ true) × (u ≡ space_unit told.pages number)
+    of true there = absurd (false≢true (sym (gone u there) ∙ is))
+    of false none = rest none (all u (sym (others u none) ∙ is))
 
 -- Of the units of these images, those that are left are held, and all others are as they were.
 pub record AreGiving (first now : ℕ → Bool) (all left : Images) : Type 0 where
@@ -215,18 +260,26 @@ module _ {R : Type 0} where
         ∙ ap (λ (hs : List Hold). with_view first (record first.pass.1 { holds = hs })) (sym (ap (λ (m : MutatorState R). m.pass.1.holds) is)),
   )
 
-  -- after units were given back
-  pub given_cleared : (old mid new : MutatorState R) → HasOnlyGiven old mid → HasCleared mid new (was_written mid) → HasCleared old new (was_written old)
-  given_cleared old mid new given has = record {
-    words = λ q. has.words q
-        ∙ (λ i. if slice_index_or (given i).wrote q false then 0 else word_of (given i).pass.1.log q);
-    refs = λ q. has.refs q ∙ (λ i. slice_index_or (given i).wrote q false || slice_index_or (given i).refs q false);
-    stands = λ q none. has.stands q (ap (λ (m : MutatorState R). slice_index_or m.wrote q false) given ∙ none) ∙ ap (λ (m : MutatorState R). stands_of m.pass.1.log q) given;
-    marks = λ p. has.marks p ∙ ap (λ (m : MutatorState R). marks_of m.pass.1.log p) given;
-    space = has.space ∙ ap (λ (m : MutatorState R). m.space) given;
-    reader = has.reader ∙ ap (λ (m : MutatorState R). m.reader) given;
-    view = (
-      has.view.0 ∙ ap (λ (m : MutatorState R). m.pass.0) given,
-      has.view.1 ∙ ap (λ (m : MutatorState R). record m.pass.1 { log = new.pass.1.log; holds = new.pass.1.holds }) given,
-    );
-  }
+-- once the written places are nil, each place is one that was known before
+pub cleared_belongs : {R : Type 0} (content : R → Option (List ℕ)) (heap : TableId × Told) (old new : MutatorState R) → RemembersUnwritten heap.1 old → HasCleared old new (was_written old)
+    → IsMutatorOf content heap new → Belongs content heap new
+cleared_belongs content heap old new known has kept = record {
+  mutator = kept;
+  known = λ q tagged. of q (was_written old q) refl (sym (has.refs q) ∙ tagged) (has.words q);
+}
+  where
+    of : (q : ℕ) (b : Bool) → was_written old q ≡ b → (was_written old q || slice_index_or old.refs q false) ≡ true → word_of new.pass.1.log q ≡ (if was_written old q then 0 else word_of old.pass.1.log q)
+        → KnowsWord heap.1 new.pass.1 (word_of new.pass.1.log q)
+    of q true e tagged word = inl (word ∙ ap (λ (b : Bool). if b then 0 else word_of old.pass.1.log q) e)
+    of q false e tagged word =
+        subst (KnowsWord heap.1 new.pass.1) (sym (word ∙ ap (λ (b : Bool). if b then 0 else word_of old.pass.1.log q) e))
+        (same_word heap.1 old.pass.1 new.pass.1 (word_of old.pass.1.log q) (ap (λ (v : View). v.seen) has.view.1)
+        (known q (sym (ap (λ (b : Bool). b || slice_index_or old.refs q false) e) ∙ tagged) e))
+
+-- what a row remembers in a transaction
+pub unwritten_known : {R : Type 0} (content : R → Option (List ℕ)) (t : TxnState R) → IsUnderway content t → RemembersUnwritten (told_in t) t.mutator
+unwritten_known content t underway q tagged none = of (underway.known q tagged)
+  where
+    of : KnowsPlace (told_in t) (view_in t) t.held (slice_index_or t.mutator.wrote q false) (word_of (view_in t).log q) → KnowsWord (told_in t) (view_in t) (word_of (view_in t).log q)
+    of (inl word) = word
+    of (inr own) = absurd (false≢true (sym none ∙ own.0))

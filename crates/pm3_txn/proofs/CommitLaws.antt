@@ -140,7 +140,7 @@ module _ {D R : Type 0} (g : Ghosts D R) (content : R → Option (List ℕ)) (he
         × IsRun told.opening.catalog done (now told.opening.catalog BASE st v.seen).graph (now told.opening.catalog BASE (now told.opening.catalog BASE st v.seen) (d ∷ [])).graph
     both frame st opens done runs =
         let at = has.good.marks st opens in let top = has.good.bounds.3 in let q = at.1 in
-        transactions_commit frame told.opening.catalog told.pages (now told.opening.catalog BASE st v.seen) h p.written.images done d (settled_now told v.seen st has.belongs.lawful opens)
+        transactions_commit frame told.opening.catalog told.pages (now told.opening.catalog BASE st v.seen) h p.written.images done d (settled_now told v.seen st has.belongs.mutator.lawful opens)
         (omega (arith, q, top)) runs plainly (marks st opens)
 
     -- so the history stays lawful with it
@@ -148,7 +148,7 @@ module _ {D R : Type 0} (g : Ghosts D R) (content : R → Option (List ℕ)) (he
     unfolding LawfulFrom
     lawful_more frame st opens =
         let was = under.runs st opens in
-        lawful_join told.opening.catalog BASE told.pages st v.seen (d ∷ []) (has.belongs.lawful st opens, ((both frame st opens was.0 was.1).0, tt))
+        lawful_join told.opening.catalog BASE told.pages st v.seen (d ∷ []) (has.belongs.mutator.lawful st opens, ((both frame st opens was.0 was.1).0, tt))
 
     -- and the operations lead from the graph before it to the graph after it
     pub runs_whole : FrameOfRuns → (st : State) → Opens BASE told.pages told.opening st → (done : List (Op × ℕ)) → RunsAfter told v h st done
@@ -217,7 +217,7 @@ module _ {D R : Type 0} (g : Ghosts D R) (content : R → Option (List ℕ)) (he
     -- or be kept as failed
     pub may_fail : FrameOfRuns → v.lost ≡ [] → MayJoin told v [] (d ∷ [])
     may_fail frame none = record {
-      lawful = subst (Lawful told) (no_more v.seen) has.belongs.lawful;
+      lawful = subst (Lawful told) (no_more v.seen) has.belongs.mutator.lawful;
       lawful_lost = subst (λ (l : List Done). Lawful told (l ++ (v.lost ++ d ∷ []))) (no_more v.seen)
           (subst (λ (l : List Done). Lawful told (v.seen ++ l)) (sym (ap (λ (l : List Done). l ++ d ∷ []) none)) (lawful_more frame));
       single = (inl none, inl none);

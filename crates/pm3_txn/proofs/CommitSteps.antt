@@ -1,10 +1,11 @@
 -- A commit, from before the turn was taken.
-use Rattle.std.proofs.Common.{◌≡◌, ◌≤◌, ◌++◌, ◌∙◌, ℕ, Bool, true, false, List, [], ◌∷◌, Option, Some, Result, Ok, Err, IfOk, IfErr, slice_index_or, refl, sym, ap, subst, arith}
+use Rattle.std.proofs.Common.{◌≡◌, ◌≤◌, ◌++◌, ◌∙◌, inl, inr, ℕ, Bool, true, false, List, [], ◌∷◌, Option, Some, None, is_some, Result, Ok, Err, IfOk, IfErr, slice_index_or, refl, sym, ap, subst, arith}
+use Rattle.std.proofs.lemmas.Bool.{false≢true}
 use Rattle.std.specs.FinMap.{contains_key}
 use Rattle.atomic_table.specs.Seated.{TableId}
 use Rattle.pm3_core.specs.declared.naming.TheConstants.{BASE}
 use Rattle.pm3_disk.specs.declared.outside.Disk.{Ghosts}
-use Rattle.pm3_access.specs.Holding.{Holding}
+use Rattle.pm3_access.specs.Holding.{Holding, HeldSpaceState}
 use Rattle.pm3_graph.specs.Operation.{IsRun}
 use Rattle.pm3_journal.specs.declared.entry.Receipt.{Receipt}
 use Rattle.pm3_history.specs.Entry.{Done}
@@ -26,12 +27,19 @@ use Rattle.pm3_txn.specs.Commits.{HasCommitted, HasEnded, HasMarksAfter, HasOnly
 use Rattle.pm3_txn.specs.Committing.{HasFailed, HasGivenTurn, HasRecorded, HasTurn, IsCommitFor, IsEndOf, IsFaultOf}
 use Rattle.pm3_txn.specs.Frontiers.{IsTop}
 use Rattle.pm3_txn.specs.Slots.{turn_state}
-use Rattle.pm3_txn.specs.States.{MutatorState, TxnState}
+use Rattle.pm3_txn.specs.States.{MutatorState, TxnState, told_in, view_in}
 use Rattle.pm3_txn.specs.Takes.{HasTaken, with_view}
-use Rattle.pm3_txn.specs.Underway.{Belongs, IsUnder, IsUnderway}
+use Rattle.pm3_txn.specs.Heaps.{IsBelow}
+use Rattle.pm3_txn.specs.Knowing.{KnowsWord, state_seen}
+use Rattle.pm3_txn.specs.Owners.{KnowsPlace}
+use Rattle.pm3_txn.specs.Touching.{nothing_more}
+use Rattle.pm3_txn.specs.Underway.{Belongs, IsUnderway}
 use Rattle.pm3_txn.specs.Values.{WasStopped, due_after}
-use Rattle.pm3_txn.proofs.Advancing.{goes_still}
-use Rattle.pm3_txn.proofs.Taking.{under_later}
+use Rattle.pm3_txn.proofs.Advancing.{moment, advances_both, goes_still}
+use Rattle.pm3_txn.proofs.Keeping.{alone_known}
+use Rattle.pm3_txn.proofs.Seeing.{settled_now}
+use Rattle.pm3_txn.proofs.Touched.{away_underway}
+use Rattle.pm3_txn.proofs.WorksBegin.{works_alone}
 use Rattle.pm3_txn.proofs.Touched.{no_more}
 use Rattle.pm3_txn.proofs.TurnTaken.{back_holds, has_turn, turn_goes, turn_later, turn_seen}
 
@@ -48,7 +56,7 @@ only_seen_both a b c first second = second ∙ ap (λ (x : MutatorState _). with
 })) first
 
 module _ {D R : Type 0} (g : Ghosts D R) (content : R → Option (List ℕ)) (heap : TableId × Told) (m n : MutatorState R) (h : Holding) (tag : ℕ) (turn : Turns D R)
-    (belongs : Belongs content heap m) (under : IsUnder heap.1 m.pass.1 h) (has : HasTaken g heap.1 m n (turn_unit heap.1.pages) (Some (Turn turn))) (kept : Belongs content heap n) where
+    (was : IsUnderway content (moment heap tag m h)) (alone : h.space ≡ None) (below : IsBelow heap.1) (has : HasTaken g heap.1 m n (turn_unit heap.1.pages) (Some (Turn turn))) (kept : Belongs content heap n) where
   abbrev told : Told
   told = heap.1
 
@@ -59,13 +67,13 @@ module _ {D R : Type 0} (g : Ghosts D R) (content : R → Option (List ℕ)) (he
   between = has.taken.between
 
   turned : HasTurn g content heap n (turn_state turn) h
-  turned = has_turn g content heap m n h turn belongs under has kept
+  turned = has_turn g content heap m n h tag turn was alone below has kept
 
   seen_is : n.pass.1.seen ≡ m.pass.1.seen ++ between
-  seen_is = turn_seen g content heap m n h turn belongs under has kept
+  seen_is = turn_seen g content heap m n h tag turn was alone below has kept
 
   later : m.pass.1.faults ≤ n.pass.1.faults
-  later = turn_later g content heap m n h turn belongs under has kept
+  later = turn_later g content heap m n h tag turn was alone below has kept
 
   only_seen : HasOnlySeen m n
   only_seen = subst (λ (x : MutatorState R). HasOnlySeen m x) (sym (has.rest ∙ ap (with_view m) has.taken.view)) refl
@@ -100,7 +108,8 @@ module _ {D R : Type 0} (g : Ghosts D R) (content : R → Option (List ℕ)) (he
     receipt_is = is.receipt_is ∙ (λ i. record { seq = (turned.good.due ∙ ap (due_after told.opening.due) seen_is) i; pinned = 0; moved = 0 });
     run = λ st opens ops runs.
         subst (λ (l : List Done). IsRun told.opening.catalog ops (now told.opening.catalog BASE st l).graph (now told.opening.catalog BASE st new.pass.1.seen).graph) seen_is
-        (is.run st opens ops (turn_goes g content heap m n h turn belongs under has kept st opens ops runs));
+        (is.run st opens ops (works_alone told.opening.catalog told.pages (state_seen told n.pass.1 st) h ops (settled_now told n.pass.1.seen st kept.mutator.lawful opens) alone
+        ((turn_goes g content heap m n h tag turn was alone below has kept).works st opens ops runs)));
     heard = (let first = later in let second = is.heard in omega (arith, first, second));
     rest = only_seen_both m n new only_seen is.given.rest;
   }
@@ -112,10 +121,10 @@ module _ {D R : Type 0} (g : Ghosts D R) (content : R → Option (List ℕ)) (he
   as_before new given holds = record {
     rest = refl;
     seen = only_seen_both m n new only_seen given.rest;
-    holds = λ u. holds u ∙ back_holds g content heap m n h turn belongs under has kept u;
+    holds = λ u. holds u ∙ back_holds g content heap m n h tag turn was alone below has kept u;
     own = (given.mine ∙ sym (no_more n.pass.1.mine) ∙ mine_is, given.failed_are ∙ sym (no_more n.pass.1.failed) ∙ failed_is);
-    goes_on = λ st opens ops runs. goes_still told n.pass.1 new.pass.1 h (given.seen ∙ sym (no_more n.pass.1.seen)) st opens ops
-        (turn_goes g content heap m n h turn belongs under has kept st opens ops runs);
+    goes_on = advances_both at_first (moment heap tag n h) (record at_first { mutator = new }) nothing_more nothing_more refl (turn_goes g content heap m n h tag turn was alone below has kept)
+        (goes_still told n.pass.1 new.pass.1 h (given.seen ∙ sym (no_more n.pass.1.seen)));
   }
 
   ended : (new : MutatorState R) (failed : List Done) → HasFailed n new failed → HasEnded at_first new
@@ -159,13 +168,22 @@ over_heap content heap h tag turn n (Refused cause txn) (memory, same, given, he
 over_heap content heap h tag turn n (Ended cause mutator) is = tt
 
 -- the turn's word showed another holder
-pub busy_under : {R : Type 0} (content : R → Option (List ℕ)) (heap : TableId × Told) (m n : MutatorState R) (h : Holding) (tag unit word : ℕ) → IsUnder heap.1 m.pass.1 h
-    → n ≡ with_view m (refused m.pass.1 unit word) → Belongs content heap n → IsUnderway content (record { heap = heap; mutator = n; held = h; tag = tag })
-busy_under content heap m n h tag unit word under is kept = record {
-  belongs = kept;
-  under = under_later heap.1 m.pass.1 n.pass.1 h [] under (ap (λ (x : MutatorState _). x.pass.1.seen) is ∙ no_more m.pass.1.seen) kept.lawful (λ u _. refl)
-      (λ u. ap (λ (x : MutatorState _). holds_of x.pass.1.holds u) is);
-}
+pub busy_underway : {R : Type 0} (content : R → Option (List ℕ)) (heap : TableId × Told) (m n : MutatorState R) (h : Holding) (tag unit word : ℕ) → IsUnderway content (moment heap tag m h)
+    → n ≡ with_view m (refused m.pass.1 unit word) → Belongs content heap n → IsUnderway content (moment heap tag n h)
+busy_underway content heap m n h tag unit word was is kept = away_underway content heap m n h tag unit word is was kept.mutator
+
+-- a transaction without its space remembers persistent objects alone
+pub alone_belongs : {R : Type 0} (content : R → Option (List ℕ)) (t : TxnState R) → t.held.space ≡ None → IsUnderway content t → Belongs content t.heap t.mutator
+alone_belongs content t alone underway = record { mutator = underway.mutator; known = λ q tagged. of (underway.known q tagged) }
+  where
+    of : {b : Bool} {a : ℕ} → KnowsPlace (told_in t) (view_in t) t.held b a → KnowsWord (told_in t) (view_in t) a
+    of (inl word) = word
+    of {b} {a} (inr own) = inr (alone_known (told_in t) (view_in t) t.held a alone own.1)
+
+-- none is held
+pub bare_space : (o : Option HeldSpaceState) → is_some o ≡ false → o ≡ None
+bare_space None is = refl
+bare_space (Some s) is = absurd (false≢true (sym is))
 
 pub ok_map : {T E : Type 0} (P Q : T → Type 0) (r : Result T E) → IfOk r P → ((x : T) → P x → Q x) → IfOk r Q
 ok_map P Q (Ok x) is step = step x is

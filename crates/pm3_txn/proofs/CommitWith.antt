@@ -1,5 +1,5 @@
 -- A transaction that has the turn commits: what each of its steps asks and leaves.
-use Rattle.std.proofs.Common.{◌≡◌, ◌≢◌, ◌⊎◌, ◌↔◌, ◌<◌, ◌≤◌, ◌+◌, ◌^◌, ◌++◌, ◌∙◌, inl, inr, ℕ, true, List, [], ◌∷◌, Option, Some, None, Result, Err, is_some, refl, sym, ap, subst, arith}
+use Rattle.std.proofs.Common.{◌≡◌, ◌≢◌, ◌⊎◌, ◌↔◌, ◌<◌, ◌≤◌, ◌+◌, ◌^◌, ◌==◌, ◌||◌, ◌++◌, ◌∙◌, inl, inr, ℕ, Bool, true, false, List, [], ◌∷◌, Option, Some, None, Result, Err, is_some, refl, sym, ap, subst, arith}
 use Rattle.std.specs.FinMap.{contains_key, get, get-empty}
 use Rattle.std.specs.Option.{option_or}
 use Rattle.std.specs.Ordering.{nat_cmp}
@@ -32,11 +32,16 @@ use Rattle.pm3_history.specs.Entry.{Done}
 use Rattle.pm3_history.specs.State.{now}
 use Rattle.pm3_table.specs.declared.view.Told.{Told}
 use Rattle.pm3_table.specs.declared.view.View.{View}
-use Rattle.pm3_table.specs.Holds.{holds_of}
+use Rattle.pm3_table.specs.Entries.{makes}
+use Rattle.pm3_table.specs.Histories.{some_has}
+use Rattle.pm3_table.specs.Holds.{holds_of, is_in}
+use Rattle.pm3_table.specs.Names.{spare}
 use Rattle.pm3_table.specs.Ops.{gave, turned}
 use Rattle.pm3_table.specs.Words.{turn_unit}
 use Rattle.pm3_txn.specs.declared.values.Turn.{Turn as Turns}
 use Rattle.pm3_txn.specs.Committing.{AreFiled, AreWritable, HasFailed, HasGivenTurn, HasMadeRoom, HasRecorded, HasTurn, IsCommitFor, IsEndOf, IsEntryFor, IsParted, MayGive, done_by, end_of, failed_by}
+use Rattle.pm3_txn.specs.DrawnLaws.{IsAlike}
+use Rattle.pm3_txn.specs.Owners.{IsHolding}
 use Rattle.pm3_txn.specs.Runs.{RunsAfter}
 use Rattle.pm3_txn.specs.Slots.{turn_state}
 use Rattle.pm3_txn.specs.States.{MutatorState}
@@ -44,7 +49,7 @@ use Rattle.pm3_txn.specs.Takes.{with_view}
 use Rattle.pm3_txn.specs.Underway.{Belongs, IsUnder, IsUnderway}
 use Rattle.pm3_txn.specs.Values.{IsTurnOf, WasStopped}
 use Rattle.pm3_txn.proofs.CommitLaws.{may_fail, may_record, runs_whole, writable, writable_wide}
-use Rattle.pm3_txn.proofs.GivenBack.{under_given}
+use Rattle.pm3_txn.proofs.OwnerDraws.{holdings_draw}
 use Rattle.pm3_txn.proofs.Touched.{no_more}
 use Rattle.pm3_txn.proofs.TurnTaken.{given_turn, has_room, may_keep}
 use Rattle.pm3_txn.proofs.TurnValues.{high_low, is_fit, none_lost, turn_grown, turn_halted}
@@ -55,6 +60,15 @@ sheet_of (Some image) sheet is = (image, refl, cc is)
 
 same_image : (a b : PageImage) → a.page ≡ b.page → a.sheet ≡ b.sheet → a ≡ b
 same_image a b page sheet = λ i. record { page = page i; sheet = sheet i }
+
+-- where no commit came no name was used
+still_spare : (n : ℕ) (xs : List ℕ) → is_in n xs ≡ true → is_in n (spare (some_has makes []) xs) ≡ true
+still_spare n [] is = is
+still_spare n (x ∷ xs) is = of (x == n) (still_spare n xs) is
+  where
+    of : (b : Bool) → (is_in n xs ≡ true → is_in n (spare (some_has makes []) xs) ≡ true) → (b || is_in n xs) ≡ true → (b || is_in n (spare (some_has makes []) xs)) ≡ true
+    of true rest h = refl
+    of false rest h = rest h
 
 -- an append that was not refused for it was on a journal that isn't stopped
 pub not_stopped : (result : Result Receipt AppendFault) (stopped : Option ℕ) → ((seq : ℕ) → (result ≡ Err (Stopped seq)) ↔ (stopped ≡ Some seq))
@@ -106,10 +120,20 @@ module _ {D R : Type 0} (g : Ghosts D R) (content : R → Option (List ℕ)) (he
     keeps = may_keep g content heap m (turn_state made) (joined p) has
 
     module _ (n : MutatorState R) (given : n ≡ with_view m (turned (turn_unit told.pages) v [] [] (g.faults made.journal.disk))) (kept : Belongs content heap n) where
-      pub kept_under : IsUnderway content (record { heap = heap; mutator = n; held = joined p; tag = tag })
-      kept_under = record {
-        belongs = kept;
-        under = under_given told v n.pass.1 (joined p) under (ap (λ (x : MutatorState R). x.pass.1.seen) given ∙ sym (no_more v.seen)) (ap (λ (x : MutatorState R). x.pass.1.holds) given) kept.lawful;
+      alike : IsAlike (gave v (turn_unit told.pages)) n.pass.1
+      alike = record {
+        seen = ap (λ (x : MutatorState R). x.pass.1.seen) given ∙ sym (no_more v.seen);
+        holds = ap (λ (x : MutatorState R). x.pass.1.holds) given;
+        steady = ap (λ (x : MutatorState R). x.pass.1.steady) given;
+        names = λ k is. ap (λ (x : MutatorState R). is_in k x.pass.1.names) given ∙ still_spare k v.names is;
+      }
+
+      pub kept_underway : IsUnderway content (record { heap = heap; mutator = n; held = joined p; tag = tag })
+      kept_underway = record {
+        mutator = kept.mutator;
+        known = λ q tagged. inl (kept.known q tagged);
+        holding = subst (λ (k : ℕ). IsHolding told n.pass.1 k (joined p)) (sym (ap (λ (x : MutatorState R). x.space) given))
+            (holdings_draw told (gave v (turn_unit told.pages)) n.pass.1 m.space (joined p) alike (ap (λ (x : MutatorState R). x.pass.1.spans) given) here.holding).1;
       }
 
       counted : n.pass.1.faults ≡ g.faults made.journal.disk
@@ -228,10 +252,10 @@ module _ {D R : Type 0} (g : Ghosts D R) (content : R → Option (List ℕ)) (he
 
         module _ (grows : journal ≡ grown r journal.disk made.journal) (added : Steps (HasOneMore r) (g.content made.journal.disk) (g.content journal.disk))
             (calm : g.faults journal.disk ≡ g.faults made.journal.disk) where
-          pub records : MayGive g told v (record { journal = journal; next_name = e.next_name; high_page = e.high_page; opened = made.opened.value }) (d ∷ []) []
+          pub records : MayGive g told v (record { journal = journal; next_name = e.next_name; high_page = e.high_page; file = made.file; opened = made.opened.value }) (d ∷ []) []
           records = record {
-            good = subst (λ (l : List Done). IsTurnOf g told l (v.seen ++ d ∷ []) (turn_unit told.pages) (record { journal = journal; next_name = e.next_name; high_page = e.high_page; opened = made.opened.value })) (no_more v.lost)
-                (subst (λ (j : JournalState D). IsTurnOf g told v.lost (v.seen ++ d ∷ []) (turn_unit told.pages) (record { journal = j; next_name = e.next_name; high_page = e.high_page; opened = made.opened.value })) (sym grows)
+            good = subst (λ (l : List Done). IsTurnOf g told l (v.seen ++ d ∷ []) (turn_unit told.pages) (record { journal = journal; next_name = e.next_name; high_page = e.high_page; file = made.file; opened = made.opened.value })) (no_more v.lost)
+                (subst (λ (j : JournalState D). IsTurnOf g told v.lost (v.seen ++ d ∷ []) (turn_unit told.pages) (record { journal = j; next_name = e.next_name; high_page = e.high_page; file = made.file; opened = made.opened.value })) (sym grows)
                 (turn_grown g told v.lost v.seen (turn_unit told.pages) tag v.row (turn_state made) has.good small.0 e p entry writes filed journal.disk whole added calm));
             heard = (let first = has.heard in omega (arith, first, calm));
             may = may_record g content heap m (turn_state made) tag e p has parted small entry high frame lost_is;
@@ -260,18 +284,18 @@ module _ {D R : Type 0} (g : Ghosts D R) (content : R → Option (List ℕ)) (he
         same_journal fault at (inl failed) differs = absurd (differs (cc (sym at ∙ failed)))
         same_journal fault at (inr same) differs = same
 
-        after_same : journal ≡ made.journal → MayGive g told v (record { journal = journal; next_name = made.next_name; high_page = made.high_page; opened = made.opened.value }) [] []
-        after_same same_j = subst (λ (j : JournalState D). MayGive g told v (record { journal = j; next_name = made.next_name; high_page = made.high_page; opened = made.opened.value }) [] []) (sym same_j) keeps
+        after_same : journal ≡ made.journal → MayGive g told v (record { journal = journal; next_name = made.next_name; high_page = made.high_page; file = made.file; opened = made.opened.value }) [] []
+        after_same same_j = subst (λ (j : JournalState D). MayGive g told v (record { journal = j; next_name = made.next_name; high_page = made.high_page; file = made.file; opened = made.opened.value }) [] []) (sym same_j) keeps
 
         pub fails : (fault : AppendFault) → result ≡ Err fault → (result ≡ Err JournalFault) ⊎ (journal ≡ made.journal)
-            → MayGive g told v (record { journal = journal; next_name = made.next_name; high_page = made.high_page; opened = made.opened.value }) [] (failed_by fault d)
+            → MayGive g told v (record { journal = journal; next_name = made.next_name; high_page = made.high_page; file = made.file; opened = made.opened.value }) [] (failed_by fault d)
         fails (Stopped seq) at refused = after_same (same_journal (Stopped seq) at refused (λ e. cc e))
         fails (Full limit) at refused = after_same (same_journal (Full limit) at refused (λ e. cc e))
         fails JournalFault at refused =
             let whole : made.journal.stopped ≡ None = not_stopped result made.journal.stopped stopped (λ seq is. none_same seq is) in
             record {
-              good = subst (λ (l : List Done). IsTurnOf g told (v.lost ++ d ∷ []) l (turn_unit told.pages) (record { journal = journal; next_name = made.next_name; high_page = made.high_page; opened = made.opened.value })) (no_more v.seen)
-                  (subst (λ (j : JournalState D). IsTurnOf g told (v.lost ++ d ∷ []) v.seen (turn_unit told.pages) (record { journal = j; next_name = made.next_name; high_page = made.high_page; opened = made.opened.value })) (sym (halts at))
+              good = subst (λ (l : List Done). IsTurnOf g told (v.lost ++ d ∷ []) l (turn_unit told.pages) (record { journal = journal; next_name = made.next_name; high_page = made.high_page; file = made.file; opened = made.opened.value })) (no_more v.seen)
+                  (subst (λ (j : JournalState D). IsTurnOf g told (v.lost ++ d ∷ []) v.seen (turn_unit told.pages) (record { journal = j; next_name = made.next_name; high_page = made.high_page; file = made.file; opened = made.opened.value })) (sym (halts at))
                   (turn_halted g told v.lost v.seen (turn_unit told.pages) tag v.row (turn_state made) has.good small.0 e p entry writes filed journal.disk whole (part at) (rose at) up));
               heard = (let first = has.heard in omega (arith, first, up));
               may = may_fail g content heap m (turn_state made) tag e p has parted small entry high frame (lost_is frame journal whole);

@@ -3,19 +3,19 @@ use Rattle.std.proofs.Common.{◌≡◌, ◌+◌, ◌-◌, ◌<◌, ◌≤◌, �
 use Rattle.pm3_txn.specs.declared.values.Turn.{Turn as Turns}
 use Rattle.pm3_txn.specs.declared.values.Value.{Value}
 use Rattle.pm3_txn.specs.declared.values.Value.TheVariants.{Turn}
-use Rattle.pm3_txn.specs.Draining.{AreNoTurns, EndsWithTurn, HasTurnLast, IsDiskOf, is_turn}
+use Rattle.pm3_txn.specs.Draining.{AreNoTurns, EndsWithTurn, HasTurnLast, AreDisksOf, is_turn}
 
 module _ {A : Type 0} where
-  at_last : (rest : List A) (x d : A) → get_or (rest ++ x ∷ []) (length rest) d ≡ x
+  pub at_last : (rest : List A) (x d : A) → get_or (rest ++ x ∷ []) (length rest) d ≡ x
   at_last [] x d = refl
   at_last (y ∷ ys) x d = at_last ys x d
 
-  at_front : (rest : List A) (x d : A) (u : ℕ) → u < length rest → get_or (rest ++ x ∷ []) u d ≡ get_or rest u d
+  pub at_front : (rest : List A) (x d : A) (u : ℕ) → u < length rest → get_or (rest ++ x ∷ []) u d ≡ get_or rest u d
   at_front [] x d u low = absurd (omega (arith, low))
   at_front (y ∷ ys) x d zero low = refl
   at_front (y ∷ ys) x d (suc u) low = at_front ys x d u (omega (arith, low))
 
-  one_more : (rest : List A) (x : A) → length (rest ++ x ∷ []) ≡ length rest + 1
+  pub one_more : (rest : List A) (x : A) → length (rest ++ x ∷ []) ≡ length rest + 1
   one_more rest x = length-append rest (x ∷ [])
 
 module _ {D R : Type 0} where
@@ -44,6 +44,7 @@ module _ {D R : Type 0} where
   turn_is : (a b : Turns D R) → Some (Turn a) ≡ Some (Turn b) → a ≡ b
   turn_is a b same = cc same
 
-  pub disk_is : (homes rest : List (Option (Value D R))) (slot : Option (Value D R)) (turn : Turns D R) (disk : D) → homes ≡ rest ++ slot ∷ [] → slot ≡ Some (Turn turn) → disk ≡ turn.journal.disk → IsDiskOf disk homes
-  disk_is homes rest slot turn disk is here same other ends =
-      same ∙ ap (λ (t : Turns D R). t.journal.disk) (turn_is turn other (sym here ∙ last_is homes rest slot other is ends))
+  pub disks_are : (homes rest : List (Option (Value D R))) (slot : Option (Value D R)) (turn : Turns D R) (disk : D) → homes ≡ rest ++ slot ∷ [] → slot ≡ Some (Turn turn) → disk ≡ turn.journal.disk → AreDisksOf turn.file disk homes
+  disks_are homes rest slot turn disk is here same other ends =
+      let one = turn_is turn other (sym here ∙ last_is homes rest slot other is ends) in
+      (ap (λ (t : Turns D R). t.file) one, same ∙ ap (λ (t : Turns D R). t.journal.disk) one)

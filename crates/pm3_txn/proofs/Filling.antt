@@ -22,7 +22,7 @@ is_below u n low = grind (arith, nat_tests, low)
 not_below : (u n : ℕ) → n ≤ u → nat_lt u n ≡ false
 not_below u n high = grind (arith, nat_tests, high)
 
-other_key : (q k : ℕ) (b : Bool) → eq_by_cmp nat_cmp q k ≡ b → q ≢ k → b ≡ false
+pub other_key : (q k : ℕ) (b : Bool) → eq_by_cmp nat_cmp q k ≡ b → q ≢ k → b ≡ false
 other_key q k true is other = absurd (other (same_key q k is))
 other_key q k false is other = refl
 

@@ -118,15 +118,17 @@ module _ {D R : Type 0} (g : Ghosts D R) (s : Opened D R) (open_is : IsOpenStore
     free = λ page has. absurd (false≢true (sym (set.contains-empty nat_cmp page) ∙ has));
   }
 
-  pub good_turn : Keeps g s.journal → (turn : TurnState D R) → turn.opened ≡ s → turn.journal ≡ s.journal → turn.next_name ≡ s.marks.next_name → turn.high_page ≡ s.marks.high_page
+  pub good_turn : Keeps g s.journal → (turn : TurnState D R) → turn.opened ≡ s → turn.journal ≡ s.journal → turn.next_name ≡ s.marks.next_name → turn.high_page ≡ s.marks.high_page → turn.file ≡ s.pages
       → IsTurnOf g first_told [] [] (s.marks.pages + 32) turn
-  good_turn keeps turn opened journal next_name high_page =
+  good_turn keeps turn opened journal next_name high_page file =
       subst (λ (t : TurnState D R). IsTurnOf g first_told [] [] (s.marks.pages + 32) t)
-      (λ i. record { journal = sym journal i; next_name = sym next_name i; high_page = sym high_page i; opened = sym opened i })
+      (λ i. record { journal = sym journal i; next_name = sym next_name i; high_page = sym high_page i; file = sym file i; opened = sym opened i })
       (record {
         unit = refl;
         origin = refl;
+        file_is = refl;
         opened_well = open_is;
+        opened_keeps = keeps;
         page_count = (sym open_is.page_count, refl);
         summaries = append_nothing s.journal.summaries;
         due = refl;
@@ -135,7 +137,9 @@ module _ {D R : Type 0} (g : Ghosts D R) (s : Opened D R) (open_is : IsOpenStore
         none = λ _. (refl, refl);
         marks = λ st opens. marks_now g s open_is keeps st opens;
         name_is = refl;
-        records_are = λ first old runs told is. ([], tt, λ bytes now. at first old runs told is bytes now);
+        records_are = λ first old runs told is. ([], tt, (λ bytes now. at first old runs told is bytes now), tt);
+        tells = λ runs none. sym (ap (λ (o : Option ℕ). where_whole o (g.content s.journal.disk)) runs) ∙ none;
+        within = λ page is. absurd (false≢true is);
         later = omega arith;
         stopped_at = λ n is. inl is;
         halted = λ some. absurd (some refl);

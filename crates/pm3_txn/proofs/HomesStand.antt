@@ -39,7 +39,7 @@ use Rattle.pm3_txn.specs.declared.values.Value.{Value}
 use Rattle.pm3_txn.specs.declared.values.Value.TheVariants.{Page, Space, Turn}
 use Rattle.pm3_txn.specs.Draining.{EndsWithTurn, is_turn}
 use Rattle.pm3_txn.specs.Frontiers.{IsTop}
-use Rattle.pm3_txn.specs.Heaps.{IsHeap}
+use Rattle.pm3_txn.specs.Heaps.{IsBelow, IsHeap}
 use Rattle.pm3_access.specs.FreeList.{Numbers}
 use Rattle.pm3_access.specs.Holding.{SpaceState}
 use Rattle.pm3_txn.specs.Slots.{faults_in, opening_in, pages_in, pages_of, stands_for, turn_state}
@@ -49,9 +49,9 @@ use Rattle.pm3_txn.specs.Underway.{Belongs}
 use Rattle.pm3_txn.specs.Values.{origin_of}
 use Rattle.pm3_txn.proofs.Filling.{chosen_low, chosen_high, filled_at}
 use Rattle.pm3_txn.proofs.FirstValues.{first_told, good_page, good_space, good_turn}
-use Rattle.pm3_txn.proofs.OpensAt.{names_below}
+use Rattle.pm3_txn.proofs.OpensAt.{names_below, pages_below}
 
-elem_at : {A : Type 0} (xs : List A) (u : ℕ) (d : A) → u < length xs → get_elem? xs u ≡ some (get_or xs u d)
+pub elem_at : {A : Type 0} (xs : List A) (u : ℕ) (d : A) → u < length xs → get_elem? xs u ≡ some (get_or xs u d)
 elem_at [] u d low = absurd (omega (arith, low))
 elem_at (x ∷ xs) zero d low = refl
 elem_at (x ∷ xs) (suc u) d low = elem_at xs u d (omega (arith, low))
@@ -85,12 +85,12 @@ no_pages_in space p images free = of (is_in p (pages_of space)) refl
         (λ b. false≢true (sym (ap (λ (f : Numbers). set.contains f p) free ∙ set.contains-empty nat_cmp p) ∙ set.contains-items space.free p ∙ in_keys p (set.items space.free) b))
         (in_either p (map.keys space.images) (set.items space.free) is))
 
-some_same : {A : Type 0} (x y : A) → some x ≡ some y → x ≡ y
+pub some_same : {A : Type 0} (x y : A) → some x ≡ some y → x ≡ y
 some_same x y same = cc same
 
 module _ {D R : Type 0} (g : Ghosts D R) (s : Opened D R) (open_is : IsOpenStore g s) (frontier : ℕ)
     (top : IsTop (λ p. images_refer s.catalog (sheets_of s.images.images) p ≡ true) s.marks.high_page frontier)
-    (turn : Turns D R) (opened : turn.opened.value ≡ s) (journal : turn.journal ≡ s.journal) (next_name : turn.next_name ≡ s.marks.next_name) (high_page : turn.high_page ≡ s.marks.high_page)
+    (turn : Turns D R) (opened : turn.opened.value ≡ s) (journal : turn.journal ≡ s.journal) (next_name : turn.next_name ≡ s.marks.next_name) (high_page : turn.high_page ≡ s.marks.high_page) (file : turn.file ≡ s.pages)
     (homes : List (Option (Value D R))) (long : length homes ≡ s.marks.pages + 33) (filled : IsFilled homes (first_home s.marks.pages s.images.images turn) (s.marks.pages + 33)) where
   abbrev T : Told
   T = first_told g s open_is frontier top
@@ -127,7 +127,7 @@ module _ {D R : Type 0} (g : Ghosts D R) (s : Opened D R) (open_is : IsOpenStore
       (λ past.
       let at : s.marks.pages + 32 ≡ u = omega (arith, below, past) in
       subst (λ (n : ℕ). Good (stands_for g) T [] [] n (get_or homes n None)) at
-      (subst (Good (stands_for g) T [] [] (s.marks.pages + 32)) (sym turn_value) (good_turn g s open_is frontier top keeps (turn_state turn) opened journal next_name high_page))))
+      (subst (Good (stands_for g) T [] [] (s.marks.pages + 32)) (sym turn_value) (good_turn g s open_is frontier top keeps (turn_state turn) opened journal next_name high_page file))))
 
   page_no_turn : (u : ℕ) (o : Option PageImage) → get s.images.images u ≡ o → is_turn (page_home {D = D} {R = R} s.images.images u) ≡ false
   page_no_turn u None is = ap (λ (o : Option PageImage). is_turn {D = D} {R = R} (option_map Page o)) is
@@ -181,9 +181,15 @@ module _ {D R : Type 0} (g : Ghosts D R) (s : Opened D R) (open_is : IsOpenStore
             ap (λ (n : ℕ). is_turn (get_or homes n None)) at ∙ ap is_turn (space_value j (omega (arith, low, long, high))));
       }
 
-  pub heap_is : (3 ≤ frontier) × (frontier ≤ s.marks.pages) → (told : Told) → T ≡ told → IsHeap told s.catalog (g.content s.pages) frontier
-  heap_is low told same = subst (λ (t : Told). IsHeap t s.catalog (g.content s.pages) frontier) same
-      (record { catalog_is = refl; file_is = refl; frontier_is = refl; small = (let most = open_is.bounds.pages.1 in omega (arith, most)); least = low.0; most = low.1 })
+  below : Keeps g s.journal → IsBelow T
+  below keeps = record {
+    names = λ st opens n r has. names_below g s open_is keeps st opens n r has;
+    pages = λ st opens a n has. (let low = pages_below g s open_is keeps st opens a n has in let most = top.most in omega (arith, low, most));
+  }
+
+  pub heap_is : Keeps g s.journal → (3 ≤ frontier) × (frontier ≤ s.marks.pages) → (told : Told) → T ≡ told → IsHeap told s.catalog frontier
+  heap_is keeps low told same = subst (λ (t : Told). IsHeap t s.catalog frontier) same
+      (record { catalog_is = refl; frontier_is = refl; small = (let most = open_is.bounds.pages.1 in omega (arith, most)); first = open_is.bounds.next_name.0; least = low.0; most = low.1; below = below keeps })
 
   pub started : (told : Told) → T ≡ told → IsStarted g s told
   started told same = subst (λ (t : Told). IsStarted g s t) same (record { pages = refl; next_name = refl; opening = refl; frontier = top })
@@ -201,11 +207,13 @@ module _ {D R : Type 0} (g : Ghosts D R) (s : Opened D R) (open_is : IsOpenStore
   first_belongs content heap m reader same is reads =
       subst (λ (x : MutatorState R). Belongs content heap x) (sym is)
       (record {
-        of = refl;
-        unmarked = λ p. refl;
+        mutator = record {
+          of = refl;
+          unmarked = λ p. refl;
+          lawful = λ st opens. tt;
+          reads = reads ∙ ap (λ (t : Told). t.opening.file) same;
+          tags = (length-replicate 512 true, length-replicate 512 false);
+          space = omega arith;
+        };
         known = λ q tagged. inl refl;
-        lawful = λ st opens. tt;
-        reads = reads ∙ ap (λ (t : Told). t.opening.file) same;
-        tags = (length-replicate 512 true, length-replicate 512 false);
-        space = omega arith;
       })

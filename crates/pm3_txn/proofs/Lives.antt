@@ -28,5 +28,5 @@ module _ (κ D R : Lft) (d : κ ⊑ D) (r : κ ⊑ R) where
   of_snapshot : κ ⊑ snapshot
   of_snapshot = both _ _ (both _ _ of_own (both _ _ d (both _ _ (both _ _ of_own of_journal) end))) end
 
-  pub value_lives : κ ⊑ (own ++ (((own ++ ((own ++ journal) ++ ((snapshot ++ ((snapshot ++ []) ++ [])) ++ []))) ++ []) ++ []))
-  value_lives = both _ _ of_own (both _ _ (both _ _ (both _ _ of_own (both _ _ (both _ _ of_own of_journal) (both _ _ (both _ _ of_snapshot (both _ _ (both _ _ of_snapshot end) end)) end))) end) end)
+  pub value_lives : κ ⊑ (own ++ (((own ++ ((own ++ journal) ++ (D ++ ((snapshot ++ ((snapshot ++ []) ++ [])) ++ [])))) ++ []) ++ []))
+  value_lives = both _ _ of_own (both _ _ (both _ _ (both _ _ of_own (both _ _ (both _ _ of_own of_journal) (both _ _ d (both _ _ (both _ _ of_snapshot (both _ _ (both _ _ of_snapshot end) end)) end)))) end) end)

@@ -15,16 +15,16 @@ use Rattle.pm3_access.proofs.HeldSheets.{get-left_images}
 use Rattle.pm3_page.specs.PageSheets.{sheet_in}
 use Rattle.pm3_access.proofs.Homes.{is_some_none}
 use Rattle.pm3_access.proofs.SoundingPages.{form_for_more}
-use Rattle.pm3_history.specs.Persistent.{persistent_book}
 use Rattle.pm3_history.proofs.Laying.{one_value, some_of}
 use Rattle.pm3_table.specs.declared.view.Told.{Told}
 use Rattle.pm3_table.specs.declared.view.View.{View}
-use Rattle.pm3_txn.specs.Describing.{IsNameAt}
-use Rattle.pm3_txn.specs.Knowing.{KnowsObject, is_in_use, state_seen}
+use Rattle.pm3_txn.specs.Describing.{IsNameHere}
+use Rattle.pm3_txn.specs.Knowing.{state_seen}
 use Rattle.pm3_txn.specs.ObjectValues.{name_held, type_held}
-use Rattle.pm3_txn.specs.Underway.{IsUnder}
+use Rattle.pm3_txn.specs.Owners.{IsHolding, KnowsHere, own_use}
+use Rattle.pm3_txn.specs.Works.{left_book}
 use Rattle.pm3_txn.proofs.Going.{form_rises}
-use Rattle.pm3_txn.proofs.Seeing.{use_form}
+use Rattle.pm3_txn.proofs.OwnerAnswers.{own_form}
 
 -- the image of an object's page
 pub record HasImage (h : Holding) (a : ℕ) : Type 0 where
@@ -79,16 +79,17 @@ wide_form told catalog h same small sound page image on =
     (form_rises told.opening.catalog told.pages 16384 image.page image.sheet (omega (arith, small)) (sound page image on))
 
 -- what a transaction holds has the form
-pub under_sound : (told : Told) (v : View) (h : Holding) → IsUnder told v h → AreSound told.opening.catalog BASE told.pages h
-under_sound told v h under page image on =
-    form_for_more told.opening.catalog (is_in_use told v.seen) (is_memory_reference BASE told.pages) (use_form told v.seen) image.page image.sheet (under.form page image on)
+pub holding_sound : (told : Told) (v : View) (number : ℕ) (h : Holding) → IsHolding told v number h → AreSound told.opening.catalog BASE told.pages h
+holding_sound told v number h holding page image on =
+    form_for_more told.opening.catalog (own_use told v h) (is_memory_reference BASE told.pages) (own_form told v h) image.page image.sheet (holding.form page image on)
 
--- the name that stands on the page of a known object is its name in the graph
-pub name_known : (told : Told) (v : View) (h : Holding) (a x : ℕ) → IsUnder told v h → KnowsObject told v a → is_object_held BASE h a ≡ true → name_held h a ≡ Some x → IsNameAt told v a x
-name_known told v h a x under known object is st opens =
-    let was = under.runs st opens in
+-- the name that stands on the page of a known object is its name in the transaction's book
+pub name_known : (told : Told) (v : View) (number : ℕ) (h : Holding) (a x : ℕ) → IsHolding told v number h → KnowsHere told v h a → is_object_held BASE h a ≡ true → name_held h a ≡ Some x
+    → IsNameHere told v h a x
+name_known told v number h a x holding known object is st opens =
+    let was = holding.works st opens in
     let has = image_of h a object in
-    let named = some_of (get (persistent_book BASE (state_seen told v st)) a) (known st opens) in
+    let named = some_of (get (left_book (state_seen told v st) h) a) (known.object st opens) in
     let fits = was.1.fits.objects a named.0 has.image.sheet named.1 (get-left_images h (page_in BASE a) ∙ ap sheet_in has.there) in
     let same : slice_index has.image.sheet.words (word_in BASE a + 1) ≡ x =
     one_value (name_held h a) (slice_index has.image.sheet.words (word_in BASE a + 1)) x

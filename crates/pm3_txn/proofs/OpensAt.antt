@@ -4,6 +4,7 @@ use Rattle.std.proofs.lemmas.List.{map-append}
 use Rattle.std.specs.FinMap.{get}
 use Rattle.pm3_core.specs.declared.naming.TheConstants.{BASE}
 use Rattle.pm3_disk.specs.declared.outside.Disk.{Ghosts}
+use Rattle.pm3_types.specs.Layout.{page_in}
 use Rattle.pm3_types.specs.Record.{Record}
 use Rattle.pm3_types.specs.Shown.{shown_records}
 use Rattle.pm3_types.proofs.Books.{shown_from}
@@ -19,7 +20,7 @@ use Rattle.pm3_history.specs.Opens.{Opens}
 use Rattle.pm3_history.specs.State.{State}
 use Rattle.pm3_txn.specs.Values.{origin_of, where_whole}
 
-whole_told : (stopped : Option ℕ) (told : Option (List ℕ)) (bytes : List ℕ) → where_whole stopped told ≡ Some bytes → (stopped ≡ None) × (told ≡ Some bytes)
+pub whole_told : (stopped : Option ℕ) (told : Option (List ℕ)) (bytes : List ℕ) → where_whole stopped told ≡ Some bytes → (stopped ≡ None) × (told ≡ Some bytes)
 whole_told None told bytes is = (refl, is)
 whole_told (Some n) told bytes is = absurd (cc is)
 
@@ -61,3 +62,10 @@ module _ {D R : Type 0} (g : Ghosts D R) (s : Opened D R) (open_is : IsOpenStore
       let there : get (shown_records o.catalog BASE o.book o.images) n ≡ Some r = ap (λ (x : State). get x.graph.records n) (sym opens.state) ∙ has in
       let from = shown_from o.catalog BASE o.book o.images n r there in
       subst (λ (top : ℕ). n < top) (marks_by keeps.list refl).0 (o.reached.names from.0 n from.1)
+
+  -- and its objects lie below the high page
+  pub pages_below : (a n : ℕ) → get st.book a ≡ Some n → page_in BASE a < s.marks.high_page
+  pages_below a n has =
+      let o = opens.opens in
+      let there : get o.book a ≡ Some n = ap (λ (x : State). get x.book a) (sym opens.state) ∙ has in
+      subst (λ (top : ℕ). page_in BASE a < top) (marks_by keeps.list refl).1 (o.reached.pages a n there)

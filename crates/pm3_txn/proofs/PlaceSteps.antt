@@ -9,54 +9,61 @@ use Rattle.pm3_access.specs.Spots.{IsValueFor, has_names}
 use Rattle.pm3_table.specs.declared.unit.Busy.{Busy}
 use Rattle.pm3_table.specs.declared.view.Told.{Told}
 use Rattle.pm3_txn.specs.declared.faults.AccessFault.{AccessFault}
-use Rattle.pm3_txn.specs.Knowing.{KnowsReference, KnowsWord}
-use Rattle.pm3_txn.specs.ObjectValues.{HasValue, HasNewValue}
-use Rattle.pm3_txn.specs.PlaceAccess.{HasRead, HasReadInto, HasStored, HasWritten, IsReadMarked}
+use Rattle.pm3_txn.specs.ObjectValues.{HasValue, HasNewValue, Lacks}
+use Rattle.pm3_txn.specs.PlaceAccess.{HasRead, HasReadInto, HasStored, HasWritten, IsReadMarked, IsLacking, lack_of}
 use Rattle.pm3_txn.specs.Placing.{IsPlaced, IsRefusedPlace, busy_fault}
 use Rattle.pm3_txn.specs.Refusals.{HasObject, with_read, word_at}
 use Rattle.pm3_txn.specs.States.{MutatorState, TxnState, told_in, view_in}
 use Rattle.pm3_txn.specs.Touching.{nothing_more}
-use Rattle.pm3_txn.specs.Underway.{Belongs, IsUnder, IsUnderway}
-use Rattle.pm3_txn.proofs.Advancing.{advances_both}
-use Rattle.pm3_txn.proofs.Answering.{read_advances, read_word, write_advances, under_written}
+use Rattle.pm3_txn.specs.Owners.{WorksOn, IsHolding, KnowsHere, KnowsWordHere, reads_here, writes_here}
+use Rattle.pm3_txn.specs.Underway.{IsUnderway}
+use Rattle.pm3_txn.proofs.Advancing.{moment, advances_both}
+use Rattle.pm3_txn.proofs.Keeping.{Keeps, keeps_same, row_kept}
+use Rattle.pm3_txn.proofs.KeepingWrites.{keeps_written}
+use Rattle.pm3_txn.proofs.OwnerAnswers.{holdings_read, holdings_write}
 
 module _ {R : Type 0} (content : R → Option (List ℕ)) where
   -- a value that stands at a place of an object whose page was touched
   module _ (old new : TxnState R) (i a : ℕ) (place : Place) (is_ref : Bool) (x : ℕ) (underway : IsUnderway content new) (object : HasObject old new i a)
       (has : HasValue (told_in new) new.held a place is_ref x) where
+    step : WorksOn (told_in new) (view_in new) new.held (view_in new) new.held (reads_here (told_in new) (view_in new) new.held a has.map place x)
+        × (has_names has.map place ≡ true → KnowsWordHere (told_in new) (view_in new) new.held x)
+    step = holdings_read (told_in new) (view_in new) new.mutator.space new.held a x has.map place underway.holding object.known object.object has.map_is has.value
+
     pub read_here : HasRead old new i place is_ref x
     read_here = record {
       address = a;
       object = object;
       value = has;
-      goes_on = advances_both old new new nothing_more _ object.touched.same.heap object.touched.goes_on
-          (read_advances (told_in new) (view_in new) new.held underway.under underway.belongs.lawful a object.known.object has.map object.object has.map_is place x has.value);
+      goes_on = advances_both old new new nothing_more _ object.touched.same.heap object.touched.goes_on (record { works = step.0; keeps = (keeps_same (told_in new) (view_in new) (view_in new) new.held refl).objects });
     }
 
     -- is known where it is a reference
-    pub word_here : is_ref ≡ true → KnowsWord (told_in new) (view_in new) x
-    word_here is =
-        read_word (told_in new) (view_in new) new.held underway.under underway.belongs.lawful a object.known.object has.map object.object has.map_is place x (has.kind ∙ is) has.value
+    pub word_read : is_ref ≡ true → KnowsWordHere (told_in new) (view_in new) new.held x
+    word_read is = step.1 (has.kind ∙ is)
 
   -- a value that was written there
-  module _ (heap : TableId × Told) (m : MutatorState R) (h now : Holding) (tag a : ℕ) (place : Place) (is_ref : Bool) (x : ℕ) (belongs : Belongs content heap m) (under : IsUnder heap.1 m.pass.1 h)
-      (object : is_object_held BASE h a ≡ true) (known : KnowsReference heap.1 m.pass.1 a) (value : IsValueFor place x) (word : is_ref ≡ true → KnowsWord heap.1 m.pass.1 x)
+  module _ (heap : TableId × Told) (m : MutatorState R) (h now : Holding) (tag a : ℕ) (place : Place) (is_ref : Bool) (x : ℕ) (was : IsUnderway content (moment heap tag m h))
+      (object : is_object_held BASE h a ≡ true) (known : KnowsHere heap.1 m.pass.1 h a) (value : IsValueFor place x) (word : is_ref ≡ true → KnowsWordHere heap.1 m.pass.1 h x)
       (has : HasNewValue heap.1 h now a place is_ref x) where
-    word_for : has_names has.map place ≡ true → KnowsWord heap.1 m.pass.1 x
+    word_for : has_names has.map place ≡ true → KnowsWordHere heap.1 m.pass.1 h x
     word_for names = word (sym has.kind ∙ names)
 
-    pub store_under : IsUnderway content (record { heap = heap; mutator = m; held = now; tag = tag })
-    store_under = record {
-      belongs = belongs;
-      under = under_written heap.1 m.pass.1 h under belongs.lawful a known.object has.map object has.map_is place now x value word_for has.written;
+    step_on : WorksOn heap.1 m.pass.1 h m.pass.1 now (writes_here heap.1 m.pass.1 h a has.map place x) × IsHolding heap.1 m.pass.1 m.space now
+    step_on = holdings_write heap.1 m.pass.1 m.space h now a x has.map place was.holding was.mutator.lawful known object has.map_is value word_for has.written
+
+    keeps_on : Keeps heap.1 m.pass.1 h m.pass.1 now
+    keeps_on = keeps_written heap.1 m.pass.1 m.space h now a x has.map place was.holding was.mutator.lawful known object has.map_is value word_for has.written
+
+    pub store_underway : IsUnderway content (moment heap tag m now)
+    store_underway = record {
+      mutator = was.mutator;
+      known = row_kept heap.1 m.pass.1 m.pass.1 h now keeps_on m.refs m.wrote (λ q. refl) was.known;
+      holding = step_on.1;
     }
 
-    pub stored_here : HasStored (record { heap = heap; mutator = m; held = h; tag = tag }) (record { heap = heap; mutator = m; held = now; tag = tag }) a place is_ref x
-    stored_here = record {
-      rest = refl;
-      value = has;
-      goes_on = write_advances heap.1 m.pass.1 h under belongs.lawful a known.object has.map object has.map_is place now x value word_for has.written;
-    }
+    pub stored_here : HasStored (moment heap tag m h) (moment heap tag m now) a place is_ref x
+    stored_here = record { rest = refl; value = has; goes_on = record { works = step_on.0; keeps = keeps_on.objects } }
 
 module _ {R : Type 0} where
   -- a reference that was read and then put, or refused
@@ -101,11 +108,12 @@ module _ {R : Type 0} where
         known = record { usable = object.known.usable; object = object.known.object };
         touched = record {
           same = record { heap = s.heap; tag = s.tag; table = s.table; space = s.space; refs = s.refs; wrote = s.wrote; words = s.words; stands = s.stands; marks = s.marks; row = s.row; mine = s.mine; faults = s.faults };
+          drew = t.drew;
           refusals = t.refusals;
           holds = t.holds;
           held = t.held;
           others = t.others;
-          goes_on = t.goes_on;
+          goes_on = record { works = t.goes_on.works; keeps = record { usable = t.goes_on.keeps.usable; objects = t.goes_on.keeps.objects } };
         };
         object = object.object;
       }
@@ -115,3 +123,14 @@ module _ {R : Type 0} where
   object_stored_from old mid next new i a k place x object read word stored =
       subst (HasWritten old new i place true) (word ∙ object.touched.same.words k)
       (object_stored old next new i a place true x (subst (λ t. HasObject old t i a) (sym read) (object_read old mid i a k object)) stored)
+
+  -- a place that the object lacks
+  pub lacking_from : (old mid next new : TxnState R) (i a k : ℕ) (place : Place) (type : ℕ) (fault : AccessFault) → HasObject old mid i a → next ≡ with_read mid k → new ≡ next
+      → Lacks (told_in next) next.held a place true type → fault ≡ lack_of type place → IsLacking old new i place true fault
+  lacking_from old mid next new i a k place type fault object read same lacks is = record {
+    type = type;
+    address = a;
+    object = subst (λ t. HasObject old t i a) (sym (same ∙ read)) (object_read old mid i a k object);
+    lacks = subst (λ t. Lacks (told_in t) t.held a place true type) (sym same) lacks;
+    fault_is = is;
+  }

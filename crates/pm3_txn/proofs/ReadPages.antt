@@ -70,7 +70,7 @@ whole_read catalog pages page bytes sheet is = of (nat_lt (length bytes) 4096) i
     of false e = e
 
 -- what reads in a store of fewer pages reads the same in one of more
-read_for_more : ReadHasForm → WritesWhatWasRead → ReadsWhatWasWritten → (catalog : List Fields) (few more page : ℕ) (bytes : List ℕ) (sheet : Sheet) → few ≤ more → more ≤ 16384
+pub read_for_more : ReadHasForm → WritesWhatWasRead → ReadsWhatWasWritten → (catalog : List Fields) (few more page : ℕ) (bytes : List ℕ) (sheet : Sheet) → few ≤ more → more ≤ 16384
     → page_read catalog BASE few page bytes ≡ Ok sheet → page_read catalog BASE more page bytes ≡ Ok sheet
 read_for_more has_form same_words same_image catalog few more page bytes sheet up most is =
     let words : List ℕ = words_in 512 bytes in

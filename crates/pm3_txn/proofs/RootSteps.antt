@@ -6,38 +6,49 @@ use Rattle.pm3_access.specs.Roots.{root_held, root_written}
 use Rattle.pm3_table.specs.declared.unit.Busy.{Busy}
 use Rattle.pm3_table.specs.declared.view.Told.{Told}
 use Rattle.pm3_txn.specs.declared.faults.AccessFault.{AccessFault}
-use Rattle.pm3_txn.specs.Knowing.{KnowsWord}
 use Rattle.pm3_txn.specs.Placing.{IsPlaced, IsRefusedPlace, busy_fault}
 use Rattle.pm3_txn.specs.Refusals.{with_read, word_at}
 use Rattle.pm3_txn.specs.RootAccess.{HasRootRead, HasRootReadInto, HasRootStored, HasRootWritten, IsRootMarked}
 use Rattle.pm3_txn.specs.States.{MutatorState, TxnState, told_in, view_in}
 use Rattle.pm3_txn.specs.Touching.{HasTouched, nothing_more}
-use Rattle.pm3_txn.specs.Underway.{Belongs, IsUnder, IsUnderway}
-use Rattle.pm3_txn.proofs.Advancing.{advances_both}
-use Rattle.pm3_txn.proofs.Answering.{root_advances, root_word, set_root_advances, under_rooted}
+use Rattle.pm3_txn.specs.Owners.{WorksOn, IsHolding, KnowsWordHere, root_reads_here, root_writes_here}
+use Rattle.pm3_txn.specs.Underway.{IsUnderway}
+use Rattle.pm3_txn.proofs.Advancing.{moment, advances_both}
+use Rattle.pm3_txn.proofs.Keeping.{keeps_same, row_kept}
+use Rattle.pm3_txn.proofs.OwnerAnswers.{holdings_read_root, holdings_write_root}
+use Rattle.pm3_txn.proofs.KeepingWrites.{keeps_rooted}
 
 module _ {R : Type 0} (content : R → Option (List ℕ)) where
   -- an address that stands in a slot of the page that was touched
   module _ (old new : TxnState R) (slot x : ℕ) (low : slot < 16) (underway : IsUnderway content new) (touched : HasTouched old new 2 nothing_more) (is : root_held new.held slot ≡ Some x) where
+    step : WorksOn (told_in new) (view_in new) new.held (view_in new) new.held (root_reads_here (told_in new) (view_in new) new.held slot x) × KnowsWordHere (told_in new) (view_in new) new.held x
+    step = holdings_read_root (told_in new) (view_in new) new.mutator.space new.held slot x low underway.holding is
+
     pub root_here : HasRootRead old new slot x
     root_here = record {
       touched = touched;
       value = is;
-      goes_on = advances_both old new new nothing_more _ touched.same.heap touched.goes_on
-          (root_advances (told_in new) (view_in new) new.held underway.under underway.belongs.lawful slot x low is);
+      goes_on = advances_both old new new nothing_more _ touched.same.heap touched.goes_on (record { works = step.0; keeps = (keeps_same (told_in new) (view_in new) (view_in new) new.held refl).objects });
     }
 
-    pub root_word_here : KnowsWord (told_in new) (view_in new) x
-    root_word_here = root_word (told_in new) (view_in new) new.held underway.under underway.belongs.lawful slot x low is
+    pub root_word_here : KnowsWordHere (told_in new) (view_in new) new.held x
+    root_word_here = step.1
 
   -- an address that was written there
-  module _ (heap : TableId × Told) (m : MutatorState R) (h now : Holding) (tag slot x : ℕ) (low : slot < 16) (belongs : Belongs content heap m) (under : IsUnder heap.1 m.pass.1 h)
-      (word : KnowsWord heap.1 m.pass.1 x) (is : root_written h slot x ≡ Some now) where
-    pub root_store_under : IsUnderway content (record { heap = heap; mutator = m; held = now; tag = tag })
-    root_store_under = record { belongs = belongs; under = under_rooted heap.1 m.pass.1 h under belongs.lawful now slot x low word is }
+  module _ (heap : TableId × Told) (m : MutatorState R) (h now : Holding) (tag slot x : ℕ) (low : slot < 16) (was : IsUnderway content (moment heap tag m h))
+      (word : KnowsWordHere heap.1 m.pass.1 h x) (is : root_written h slot x ≡ Some now) where
+    step_on : WorksOn heap.1 m.pass.1 h m.pass.1 now (root_writes_here heap.1 m.pass.1 h slot x) × IsHolding heap.1 m.pass.1 m.space now
+    step_on = holdings_write_root heap.1 m.pass.1 m.space h now slot x low was.holding was.mutator.lawful word is
 
-    pub root_stored_here : HasRootStored (record { heap = heap; mutator = m; held = h; tag = tag }) (record { heap = heap; mutator = m; held = now; tag = tag }) slot x
-    root_stored_here = record { rest = refl; written = is; goes_on = set_root_advances heap.1 m.pass.1 h under belongs.lawful now slot x low word is }
+    pub root_store_underway : IsUnderway content (moment heap tag m now)
+    root_store_underway = record {
+      mutator = was.mutator;
+      known = row_kept heap.1 m.pass.1 m.pass.1 h now (keeps_rooted heap.1 m.pass.1 h now slot x is) m.refs m.wrote (λ q. refl) was.known;
+      holding = step_on.1;
+    }
+
+    pub root_stored_here : HasRootStored (moment heap tag m h) (moment heap tag m now) slot x
+    root_stored_here = record { rest = refl; written = is; goes_on = record { works = step_on.0; keeps = (keeps_rooted heap.1 m.pass.1 h now slot x is).objects } }
 
 module _ {R : Type 0} where
   pub root_placed : (old mid new : TxnState R) (slot j x : ℕ) → HasRootRead old mid slot x → IsPlaced mid new j x true → HasRootReadInto old new slot j
@@ -65,11 +76,12 @@ module _ {R : Type 0} where
   touched_read : (old mid : TxnState R) (k : ℕ) → HasTouched old mid 2 nothing_more → HasTouched old (with_read mid k) 2 nothing_more
   touched_read old mid k t = (let s = t.same in record {
     same = record { heap = s.heap; tag = s.tag; table = s.table; space = s.space; refs = s.refs; wrote = s.wrote; words = s.words; stands = s.stands; marks = s.marks; row = s.row; mine = s.mine; faults = s.faults };
+    drew = t.drew;
     refusals = t.refusals;
     holds = t.holds;
     held = t.held;
     others = t.others;
-    goes_on = t.goes_on;
+    goes_on = record { works = t.goes_on.works; keeps = record { usable = t.goes_on.keeps.usable; objects = t.goes_on.keeps.objects } };
   })
 
   pub root_stored_from : (old mid next new : TxnState R) (slot k x : ℕ) → HasTouched old mid 2 nothing_more → next ≡ with_read mid k → x ≡ word_at mid k → HasRootStored next new slot x

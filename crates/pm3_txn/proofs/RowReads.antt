@@ -1,56 +1,59 @@
 -- The object to which a place of the row leads.
-use Rattle.std.proofs.Common.{◌≡◌, ◌≢◌, ◌⊎◌, ◌<◌, ◌≤◌, ◌&&◌, ◌||◌, ◌==◌, ◌∙◌, inl, inr, ℕ, Bool, true, false, leb, ltb, nat_lt, List, [], Option, slice_index_or, refl, sym, ap, subst, arith}
+use Rattle.std.proofs.Common.{◌≡◌, ◌≢◌, ◌⊎◌, ◌<◌, ◌≤◌, ◌&&◌, ◌||◌, ◌==◌, ◌∙◌, inl, inr, ℕ, Bool, true, false, leb, ltb, nat_lt, List, Option, Some, None, slice_index_or, refl, sym, ap, subst, arith}
 use Rattle.std.proofs.lemmas.Bool.{and_parts, eqb-true, leb-true, ltb-true}
+use Rattle.std.specs.Option.{option_or}
 use Rattle.std.specs.FinMap.{get}
 use Rattle.atomic_table.specs.Seated.{TableId}
 use Rattle.pm3_core.specs.declared.naming.TheConstants.{BASE}
-use Rattle.pm3_types.specs.Layout.{is_address, page_in, word_in}
+use Rattle.pm3_types.specs.Layout.{PageImage, is_address, page_in, word_in}
 use Rattle.pm3_types.specs.PageForm.{is_memory_reference}
 use Rattle.pm3_access.specs.Access.{is_object_held}
-use Rattle.pm3_access.specs.Holding.{Holding}
+use Rattle.pm3_access.specs.Holding.{Holding, image_in, space_now}
 use Rattle.pm3_history.specs.Persistent.{persistent_book}
-use Rattle.pm3_history.proofs.Laying.{some_of}
+use Rattle.pm3_history.proofs.Laying.{some_of, some_none}
 use Rattle.pm3_table.specs.declared.view.Told.{Told}
 use Rattle.pm3_table.specs.declared.view.View.{View}
 use Rattle.pm3_table.specs.Deeds.{word_of}
 use Rattle.pm3_table.specs.Entries.{writes}
 use Rattle.pm3_table.specs.Histories.{some_has}
-use Rattle.pm3_table.specs.Holds.{holds_of}
 use Rattle.pm3_txn.specs.declared.faults.AccessFault.{AccessFault}
 use Rattle.pm3_txn.specs.declared.faults.AccessFault.TheVariants.{NotAReference, Nil, Busy, PageFault, Damaged, NoSuchField, NoSuchTail, Full, Memory}
-use Rattle.pm3_txn.specs.Knowing.{KnowsHome, KnowsReference, KnowsWord, state_seen}
+use Rattle.pm3_txn.specs.Knowing.{KnowsHome, KnowsReference, state_seen}
 use Rattle.pm3_txn.specs.Loads.{IsPersistent}
 use Rattle.pm3_txn.specs.Puts.{read_own}
-use Rattle.pm3_txn.specs.Refusals.{IsTouchRefusal, IsObjectRefusal, HasObject, IsReferencePlace, with_read, word_at, page_at_place}
+use Rattle.pm3_txn.specs.Refusals.{IsTouchRefusal, IsObjectRefusal, HasObject, IsMissing, IsReferencePlace, with_read, word_at, page_at_place}
 use Rattle.pm3_txn.specs.States.{MutatorState, TxnState, told_in, view_in}
-use Rattle.pm3_txn.specs.Touching.{IsSameButHeld, HasTouched, IsTurnedAway, IsGivenBack, nothing_more}
-use Rattle.pm3_txn.specs.Underway.{Belongs, IsUnder, IsUnderway}
-use Rattle.pm3_txn.proofs.Taking.{under_later}
+use Rattle.pm3_txn.specs.Touching.{Advances, IsSameButHeld, HasTouched, IsTurnedAway, IsGivenBack, nothing_more}
+use Rattle.pm3_txn.specs.Owners.{KnowsHere, KnowsWordHere}
+use Rattle.pm3_txn.specs.Underway.{IsMutatorOf, IsUnderway}
+use Rattle.pm3_txn.proofs.Advancing.{moment, still_underway}
+use Rattle.pm3_txn.proofs.Keeping.{place_here, off_known}
+use Rattle.pm3_txn.proofs.OwnerAnswers.{own_form}
 use Rattle.pm3_txn.proofs.Seeing.{use_form}
-use Rattle.pm3_txn.proofs.Touched.{no_more}
 
 -- a transaction that has read a word of its row
-pub read_under : {R : Type 0} (content : R → Option (List ℕ)) (heap : TableId × Told) (m n : MutatorState R) (h : Holding) (tag i : ℕ) → IsUnder heap.1 m.pass.1 h
-    → n ≡ read_own m i → Belongs content heap n → IsUnderway content (record { heap = heap; mutator = n; held = h; tag = tag })
-read_under {R} content heap m n h tag i under is kept = record {
-  belongs = kept;
-  under = under_later heap.1 m.pass.1 n.pass.1 h [] under (ap (λ (x : MutatorState R). x.pass.1.seen) is ∙ no_more m.pass.1.seen) kept.lawful (λ u _. refl)
-      (λ u. ap (λ (x : MutatorState R). holds_of x.pass.1.holds u) is);
-}
+pub read_underway : {R : Type 0} (content : R → Option (List ℕ)) (heap : TableId × Told) (m n : MutatorState R) (h : Holding) (tag i : ℕ) → n ≡ read_own m i
+    → IsUnderway content (moment heap tag m h) → IsMutatorOf content heap n → IsUnderway content (moment heap tag n h)
+read_underway {R} content heap m n h tag i is was kept =
+    still_underway content heap m n h tag (subst (λ (x : MutatorState R). x.pass.1 ≡ record m.pass.1 { log = x.pass.1.log; refusals = x.pass.1.refusals }) (sym is) refl)
+    (λ q. ap (λ (x : MutatorState R). word_of x.pass.1.log q) is) (ap (λ (x : MutatorState R). x.refs) is) (ap (λ (x : MutatorState R). x.wrote) is) (ap (λ (x : MutatorState R). x.space) is) was kept
 
 module _ {R : Type 0} (t new : TxnState R) (i : ℕ) where
   same_from : IsSameButHeld (with_read t i) new → IsSameButHeld t new
   same_from s = record { heap = s.heap; tag = s.tag; table = s.table; space = s.space; refs = s.refs; wrote = s.wrote; words = s.words; stands = s.stands; marks = s.marks; row = s.row; mine = s.mine; faults = s.faults }
 
+  from : Advances (with_read t i) new nothing_more → Advances t new nothing_more
+  from x = record { works = x.works; keeps = record { usable = x.keeps.usable; objects = x.keeps.objects } }
+
   -- what touched a page behind that read touched it from before it
   pub touched_from : (page : ℕ) → HasTouched (with_read t i) new page nothing_more → HasTouched t new page nothing_more
-  touched_from page x = record { same = same_from x.same; refusals = x.refusals; holds = x.holds; held = x.held; others = x.others; goes_on = x.goes_on }
+  touched_from page x = record { same = same_from x.same; drew = x.drew; refusals = x.refusals; holds = x.holds; held = x.held; others = x.others; goes_on = from x.goes_on }
 
   back_from : (page : ℕ) → IsGivenBack (with_read t i) new page → IsGivenBack t new page
-  back_from page x = record { same = same_from x.same; refusals = x.refusals; holds = x.holds; held = x.held; absent = x.absent; goes_on = x.goes_on }
+  back_from page x = record { same = same_from x.same; drew = x.drew; refusals = x.refusals; holds = x.holds; held = x.held; absent = x.absent; goes_on = from x.goes_on }
 
   away_from : (page word : ℕ) → IsTurnedAway (with_read t i) new page word → IsTurnedAway t new page word
-  away_from page word x = record { same = same_from x.same; seen = x.seen; refusals = x.refusals; holds = x.holds; held = x.held; absent = x.absent; goes_on = x.goes_on }
+  away_from page word x = record { same = same_from x.same; drew = x.drew; seen = x.seen; refusals = x.refusals; holds = x.holds; held = x.held; absent = x.absent; goes_on = from x.goes_on }
 
   -- so it is of a refusal
   pub refusal_from : (faults : R → ℕ) (fault : AccessFault) → IsReferencePlace t i → IsTouchRefusal faults (with_read t i) new (page_at_place t i) fault → IsObjectRefusal faults t new i fault
@@ -100,36 +103,53 @@ page_known told v a other known =
 pub home_known : (told : Told) (v : View) (a : ℕ) → KnowsReference told v a → KnowsHome told v (page_in BASE a)
 home_known told v a known st opens = (let has = some_of (get (persistent_book BASE (state_seen told v st)) a) (known.object st opens) in inr (a, has.0, refl, has.1))
 
--- a place of the row that is a reference and not nil is known
-pub place_known : {R : Type 0} (content : R → Option (List ℕ)) (t mid : TxnState R) (i : ℕ) → mid ≡ with_read t i → IsUnderway content mid → IsReferencePlace t i
-    → KnowsReference (told_in mid) (view_in mid) (word_at t i)
-place_known {R} content t mid i is underway place = of (underway.belongs.known i (ap (λ (x : TxnState R). slice_index_or x.mutator.refs i false) is ∙ place.0))
-  where
-    same : word_of (view_in mid).log i ≡ word_at t i
-    same = ap (λ (x : TxnState R). word_of (view_in x).log i) is
+-- a place of the row that is a reference and not nil leads to an object of the transaction's book
+module _ {R : Type 0} (content : R → Option (List ℕ)) where
+  remembered : (t : TxnState R) (i a : ℕ) → IsUnderway content t → slice_index_or t.mutator.refs i false ≡ true → word_of (view_in t).log i ≡ a → KnowsWordHere (told_in t) (view_in t) t.held a
+  remembered t i a underway tagged same = subst (KnowsWordHere (told_in t) (view_in t) t.held) same
+      (place_here (told_in t) (view_in t) t.mutator.space t.held (slice_index_or t.mutator.wrote i false) (word_of (view_in t).log i) underway.holding (underway.known i tagged))
 
-    of : KnowsWord (told_in mid) (view_in mid) (word_of (view_in mid).log i) → KnowsReference (told_in mid) (view_in mid) (word_at t i)
-    of (inl nil) = absurd (place.1 (sym same ∙ nil))
-    of (inr known) = subst (KnowsReference (told_in mid) (view_in mid)) same known
+  pub leads : (t : TxnState R) (i a : ℕ) → IsUnderway content t → slice_index_or t.mutator.refs i false ≡ true → word_of (view_in t).log i ≡ a → a ≢ 0 → KnowsHere (told_in t) (view_in t) t.held a
+  leads t i a underway tagged same other = of (remembered t i a underway tagged same)
+    where
+      of : KnowsWordHere (told_in t) (view_in t) t.held a → KnowsHere (told_in t) (view_in t) t.held a
+      of (inl nil) = absurd (other nil)
+      of (inr known) = known
 
--- so is its page
-pub place_page : {R : Type 0} (content : R → Option (List ℕ)) (t mid : TxnState R) (i a page : ℕ) → mid ≡ with_read t i → IsUnderway content mid → IsReferencePlace t i
-    → a ≡ word_at t i → page ≡ page_in BASE a → IsPersistent (told_in mid) (view_in mid).seen page
-place_page content t mid i a page is underway place word at =
-    subst (IsPersistent (told_in mid) (view_in mid).seen) (sym (at ∙ ap (page_in BASE) word))
-    (page_known (told_in mid) (view_in mid) (word_at t i) place.1 (place_known content t mid i is underway place))
+  -- a reference that was read is nil or such an object
+  pub word_known : (t mid : TxnState R) (i a : ℕ) → mid ≡ with_read t i → IsUnderway content mid → slice_index_or t.mutator.refs i false ≡ true → a ≡ word_at t i
+      → KnowsWordHere (told_in mid) (view_in mid) mid.held a
+  word_known t mid i a is underway tagged word =
+      remembered mid i a underway (ap (λ (x : TxnState R). slice_index_or x.mutator.refs i false) is ∙ tagged) (ap (λ (x : TxnState R). word_of (view_in x).log i) is ∙ sym word)
 
-pub place_home : {R : Type 0} (content : R → Option (List ℕ)) (t mid : TxnState R) (i a page : ℕ) → mid ≡ with_read t i → IsUnderway content mid → IsReferencePlace t i
-    → a ≡ word_at t i → page ≡ page_in BASE a → KnowsHome (told_in mid) (view_in mid) page
-place_home content t mid i a page is underway place word at =
-    subst (KnowsHome (told_in mid) (view_in mid)) (sym (at ∙ ap (page_in BASE) word))
-    (home_known (told_in mid) (view_in mid) (word_at t i) (place_known content t mid i is underway place))
+  module _ (t mid : TxnState R) (i : ℕ) (is : mid ≡ with_read t i) (underway : IsUnderway content mid) (place : IsReferencePlace t i) where
+    place_known : KnowsHere (told_in mid) (view_in mid) mid.held (word_at t i)
+    place_known = leads mid i (word_at t i) underway (ap (λ (x : TxnState R). slice_index_or x.mutator.refs i false) is ∙ place.0) (ap (λ (x : TxnState R). word_of (view_in x).log i) is) place.1
 
-pub place_above : {R : Type 0} (content : R → Option (List ℕ)) (t mid : TxnState R) (i a : ℕ) → mid ≡ with_read t i → IsUnderway content mid → IsReferencePlace t i
-    → a ≡ word_at t i → BASE ≤ a
-place_above content t mid i a is underway place word =
-    subst (λ (n : ℕ). BASE ≤ n) (sym word)
-    (behind (told_in mid).pages (word_at t i) place.1 (use_form (told_in mid) (view_in mid).seen (word_at t i) (place_known content t mid i is underway place).usable)).above
+    module _ (a : ℕ) (word : a ≡ word_at t i) where
+      pub place_form : is_memory_reference BASE (told_in mid).pages a ≡ true
+      place_form = ap (is_memory_reference BASE (told_in mid).pages) word ∙ own_form (told_in mid) (view_in mid) mid.held (word_at t i) place_known.usable
+
+      pub place_above : BASE ≤ a
+      place_above = (behind (told_in mid).pages a (λ e. place.1 (sym word ∙ e)) place_form).above
+
+      -- it is a persistent one where its page is not held
+      module _ (page : ℕ) (at : page ≡ page_in BASE a) (absent : image_in mid.held page ≡ None) where
+        off : space_now mid.held.space (page_in BASE (word_at t i)) ≡ None
+        off = ap (space_now mid.held.space) (sym (at ∙ ap (page_in BASE) word)) ∙ second (get mid.held.pages.left page) (space_now mid.held.space page) absent
+          where
+            second : (o u : Option PageImage) → option_or o u ≡ None → u ≡ None
+            second None u e = e
+            second (Some x) u e = absurd (some_none (Some x) x refl e)
+
+        reference : KnowsReference (told_in mid) (view_in mid) (word_at t i)
+        reference = off_known (told_in mid) (view_in mid) mid.held (word_at t i) off place_known
+
+        pub place_page : IsPersistent (told_in mid) (view_in mid).seen page
+        place_page = subst (IsPersistent (told_in mid) (view_in mid).seen) (sym (at ∙ ap (page_in BASE) word)) (page_known (told_in mid) (view_in mid) (word_at t i) place.1 reference)
+
+        pub place_home : KnowsHome (told_in mid) (view_in mid) page
+        place_home = subst (KnowsHome (told_in mid) (view_in mid)) (sym (at ∙ ap (page_in BASE) word)) (home_known (told_in mid) (view_in mid) (word_at t i) reference)
 
 -- the page was refused, or is held with the object
 pub place_refused : {R : Type 0} (faults : R → ℕ) (t mid new : TxnState R) (i a page : ℕ) (fault : AccessFault) → mid ≡ with_read t i → IsReferencePlace t i
@@ -143,17 +163,23 @@ pub place_touched : {R : Type 0} (t mid new : TxnState R) (i a page : ℕ) → m
 place_touched t mid new i a page is at touched =
     touched_from t new i (page_in BASE a) (subst (λ (p : ℕ). HasTouched (with_read t i) new p nothing_more) at (subst (λ m. HasTouched m new page nothing_more) is touched))
 
+-- no object begins there
+pub place_missing : {R : Type 0} (t mid new : TxnState R) (i a page word : ℕ) → mid ≡ with_read t i → a ≡ word_at t i → page ≡ page_in BASE a
+    → HasTouched mid new page nothing_more → is_object_held BASE new.held a ≡ false → word ≡ word_in BASE a → IsMissing t new i page word
+place_missing t mid new i a page word is same at touched none behind_it = record {
+  touched = subst (λ (x : ℕ). HasTouched t new (page_in BASE x) nothing_more) same (place_touched t mid new i a page is at touched);
+  none = ap (is_object_held BASE new.held) (sym same) ∙ none;
+  page_is = at ∙ ap (page_in BASE) same;
+  word_is = behind_it ∙ ap (word_in BASE) same;
+}
+
 pub place_held : {R : Type 0} (content : R → Option (List ℕ)) (t mid new : TxnState R) (i a page : ℕ) → mid ≡ with_read t i → IsUnderway content new → IsReferencePlace t i
     → a ≡ word_at t i → page ≡ page_in BASE a → HasTouched mid new page nothing_more → is_object_held BASE new.held a ≡ true → HasObject t new i a
 place_held content t mid new i a page is underway place word at touched object =
     let here = place_touched t mid new i a page is at touched in record {
       place = place;
       word = word;
-      known = subst (KnowsReference (told_in new) (view_in new)) (sym word) (of (underway.belongs.known i (ap (λ (refs : List Bool). slice_index_or refs i false) here.same.refs ∙ place.0)) (here.same.words i));
+      known = leads content new i a underway (ap (λ (refs : List Bool). slice_index_or refs i false) here.same.refs ∙ place.0) (here.same.words i ∙ sym word) (λ e. place.1 (sym word ∙ e));
       touched = here;
       object = object;
     }
-  where
-    of : KnowsWord (told_in new) (view_in new) (word_of (view_in new).log i) → word_of (view_in new).log i ≡ word_at t i → KnowsReference (told_in new) (view_in new) (word_at t i)
-    of (inl nil) same = absurd (place.1 (sym same ∙ nil))
-    of (inr known) same = subst (KnowsReference (told_in new) (view_in new)) same known

@@ -5,6 +5,7 @@ use Rattle.std.proofs.lemmas.Bool.Decides.{nat_tests}
 use Rattle.std.specs.FinMap.{get, contains_key}
 use Rattle.std.specs.Option.{option_or}
 use Rattle.pm3_core.specs.declared.naming.TheConstants.{BASE}
+use Rattle.pm3_types.specs.Fields.{Fields}
 use Rattle.pm3_types.specs.Layout.{Sheet, page_in}
 use Rattle.pm3_types.specs.PageForm.{is_memory_reference}
 use Rattle.pm3_history.specs.Entry.{Done}
@@ -42,6 +43,14 @@ settled_now told seen st lawful opens =
       chronicled = histories_keep told.opening.catalog BASE told.pages st seen chron are;
       bounded = histories_are_bounded told.opening.catalog BASE told.pages st seen chron are (openings_are_bounded BASE told.pages told.opening st opens);
     }
+
+-- so it is after more that is lawful
+pub settled_after : (catalog : List Fields) (pages : ℕ) (st : State) (more : List Done) → IsSettled catalog st → AreLawful catalog BASE pages st more
+    → IsSettled catalog (now catalog BASE st more)
+settled_after catalog pages st more settled are = record {
+  chronicled = histories_keep catalog BASE pages st more settled.chronicled are;
+  bounded = histories_are_bounded catalog BASE pages st more settled.chronicled are settled.bounded;
+}
 
 -- what comes to a lawful history is lawful after it
 pub lawful_between : (told : Told) (seen between : List Done) (st : State) → Lawful told (seen ++ between) → Opens BASE told.pages told.opening st

@@ -1,45 +1,35 @@
--- A transaction while others commit, and with a page that was taken.
-use Rattle.std.proofs.Common.{◌≡◌, ◌<◌, ◌≤◌, ◌++◌, ◌∙◌, inl, inr, ℕ, true, List, [], ◌∷◌, Option, Some, None, is_some, refl, sym, ap, subst}
-use Rattle.std.proofs.lemmas.Bool.{cases_eq}
+-- A transaction that holds pages alone, while others commit.
+use Rattle.std.proofs.Common.{◌≡◌, ◌++◌, ◌∙◌, ℕ, true, List, [], ◌∷◌, Option, Some, None, is_some, refl, sym, ap, subst}
 use Rattle.std.specs.Option.{option_or}
 use Rattle.std.specs.FinMap as map
 use Rattle.std.specs.FinMap.{get}
 use Rattle.pm3_core.specs.declared.naming.TheConstants.{BASE}
 use Rattle.pm3_types.specs.Layout.{Sheet, PageImage}
 use Rattle.pm3_types.specs.PageForm.{HasForm, IsSound, is_memory_reference}
-use Rattle.pm3_graph.specs.Frame.{FrameOfRuns}
+use Rattle.pm3_graph.specs.declared.operations.Op.{Op}
 use Rattle.pm3_page.specs.PageSheets.{sheet_in}
 use Rattle.pm3_access.specs.Access.{HaveForm}
 use Rattle.pm3_access.specs.Acts.{found_images, space_found}
-use Rattle.pm3_access.specs.Holding.{Holding, image_in, admitted}
-use Rattle.pm3_access.proofs.AdmitSteps.{left_here, left_else}
+use Rattle.pm3_access.specs.Holding.{Holding, image_in}
 use Rattle.pm3_access.proofs.HeldSheets.{get-found_images}
-use Rattle.pm3_access.proofs.Homes as images_at
-use Rattle.pm3_access.proofs.InPlace.{admitted_in_place}
-use Rattle.pm3_access.proofs.SoundingHeld.{sound_admitted}
 use Rattle.pm3_access.proofs.SoundingPages.{form_for_more}
 use Rattle.pm3_history.specs.Entry.{Done}
-use Rattle.pm3_history.specs.Homes.{IsHome}
 use Rattle.pm3_history.specs.LastImages.{last_written}
+use Rattle.pm3_history.specs.Opens.{Opens}
 use Rattle.pm3_history.specs.State.{State, now}
-use Rattle.pm3_history.proofs.Laying.{one_value, some_none}
+use Rattle.pm3_history.proofs.Laying.{some_none}
 use Rattle.pm3_history.proofs.Lasting.{last_is_written}
-use Rattle.pm3_table.specs.declared.view.Hold.{Hold}
-use Rattle.pm3_table.specs.declared.view.Hold.TheVariants.{Took}
 use Rattle.pm3_table.specs.declared.view.Told.{Told}
 use Rattle.pm3_table.specs.declared.view.View.{View}
 use Rattle.pm3_table.specs.Holds.{holds_of}
 use Rattle.pm3_table.specs.Telling.{Lawful, NoneNames}
-use Rattle.pm3_table.proofs.Put.{put_at, put_else}
-use Rattle.pm3_txn.specs.Knowing.{KnowsHome, is_in_use, state_seen}
+use Rattle.pm3_txn.specs.Knowing.{is_in_use, state_seen}
 use Rattle.pm3_txn.specs.Loads.{IsPersistent}
-use Rattle.pm3_txn.specs.Runs.{Runs, GoesOn}
-use Rattle.pm3_txn.specs.Touching.{nothing_more}
+use Rattle.pm3_txn.specs.Runs.{Runs, RunsAfter}
 use Rattle.pm3_txn.specs.Underway.{IsUnder}
 use Rattle.pm3_txn.specs.Values.{IsPageOf, last_known}
-use Rattle.pm3_txn.proofs.Admitting.{pages_are_admitted}
 use Rattle.pm3_txn.proofs.Going.{transactions_go_on}
-use Rattle.pm3_txn.proofs.Seeing.{settled_now, lawful_between, lawful_before, now_later, unwritten, use_later, use_form, home_later, persistent_later}
+use Rattle.pm3_txn.proofs.Seeing.{settled_now, lawful_between, lawful_before, now_later, unwritten, use_later, use_form, persistent_later}
 
 or_or : (a b c : Option Sheet) → option_or (option_or a b) c ≡ option_or a (option_or b c)
 or_or None b c = refl
@@ -99,8 +89,8 @@ module _ (told : Told) (v w : View) (h : Holding) (between : List Done) (under :
   quiet q is = apart q (under.units q is).0
 
   -- what was done goes on after the commits of others
-  pub goes_later : GoesOn told v h w h nothing_more
-  goes_later st opens done runs =
+  runs_later : (st : State) → Opens BASE told.pages told.opening st → (done : List (Op × ℕ)) → RunsAfter told v h st done → RunsAfter told w h st done
+  runs_later st opens done runs =
       subst (λ (h' : List Done). Runs told.opening.catalog (now told.opening.catalog BASE st h') h done) (sym seen)
       (subst (λ (s : State). Runs told.opening.catalog s h done) (sym (now_later told v.seen between st))
       (transactions_go_on told.opening.catalog told.pages (state_seen told v st) h done between (settled_now told v.seen st before opens)
@@ -124,54 +114,5 @@ module _ (told : Told) (v w : View) (h : Holding) (between : List Done) (under :
     kept = under.kept;
     found = found_later;
     form = form_later;
-    runs = λ st opens. (let was = under.runs st opens in (was.0, goes_later st opens was.0 was.1));
+    runs = λ st opens. (let was = under.runs st opens in (was.0, runs_later st opens was.0 was.1));
   }
-
-  module _ (frame : FrameOfRuns) (page : ℕ) (image : PageImage) (absent : image_in h page ≡ None) (of : IsPageOf told w.seen page image) (home : KnowsHome told v page) where
-    absent_here : image_in h image.page ≡ None
-    absent_here = ap (image_in h) of.home ∙ absent
-
-    pub goes_taken : GoesOn told v h w (admitted h image) nothing_more
-    goes_taken st opens done runs =
-        pages_are_admitted frame told.opening.catalog told.pages (state_seen told w st) h done image (settled_now told w.seen st lawful opens) absent_here
-        (ap (get (state_seen told w st).pages) of.home ∙ of.last st opens)
-        (subst (IsHome BASE (state_seen told w st)) (sym of.home) (home_later told v w between page seen lawful home st opens))
-        (subst (λ (q : ℕ). 2 ≤ q) (sym of.home) of.low.0)
-        (page_sound told w.seen page image of) (goes_later st opens done runs)
-
-    -- a page that was taken is held with its last image
-    pub under_taken : w.holds ≡ Took page ∷ v.holds → IsPersistent told w.seen page → IsUnder told w (admitted h image)
-    under_taken holds persistent = record {
-      alone = under.alone;
-      places = admitted_in_place h under.places image absent_here;
-      units = λ q is. elim (cases_eq q image.page) [
-        | inl e ↦ (now_held q (e ∙ of.home), subst (λ (n : ℕ). n < told.pages) (sym (e ∙ of.home)) of.low.1)
-        | inr ne ↦ (let was = under.units q (ap is_some (sym (left_else h image absent_here q ne)) ∙ is) in
-            (ap (λ (hs : List Hold). holds_of hs q) holds ∙ put_else (holds_of v.holds) page true q (λ e. ne (e ∙ sym of.home)) ∙ was.0, was.1))
-      ];
-      only = λ u is. elim (cases_eq u image.page) [
-        | inl e ↦ ap is_some (left_here h image absent_here u e)
-        | inr ne ↦ ap is_some (left_else h image absent_here u ne)
-            ∙ under.only u (sym (put_else (holds_of v.holds) page true u (λ e. ne (e ∙ sym of.home))) ∙ ap (λ (hs : List Hold). holds_of hs u) (sym holds) ∙ is)
-      ];
-      persistent = λ q is. elim (cases_eq q image.page) [
-        | inl e ↦ subst (λ (n : ℕ). IsPersistent told w.seen n) (sym (e ∙ of.home)) persistent
-        | inr ne ↦ subst (λ (l : List Done). IsPersistent told l q) (sym seen)
-            (persistent_later told v.seen between q (under.persistent q (ap is_some (sym (left_else h image absent_here q ne)) ∙ is)))
-      ];
-      kept = λ q is. elim (cases_eq q image.page) [
-        | inl e ↦ ap is_some (images_at.get_same h.pages.found image.page q image e)
-        | inr ne ↦ ap is_some (images_at.get_other h.pages.found image.page q image ne) ∙ under.kept q (ap is_some (sym (left_else h image absent_here q ne)) ∙ is)
-      ];
-      found = λ q x is. elim (cases_eq q image.page) [
-        | inl e ↦ (let same : image ≡ x = one_value (map.get (map.insert h.pages.found image.page image) q) image x (images_at.get_same h.pages.found image.page q image e) is in
-            subst (λ (n : ℕ). IsPageOf told w.seen n x) (sym (e ∙ of.home)) (subst (IsPageOf told w.seen page) same of))
-        | inr ne ↦ found_later q x (sym (images_at.get_other h.pages.found image.page q image ne) ∙ is)
-      ];
-      form = sound_admitted told.opening.catalog BASE (is_in_use told w.seen) h image
-          (subst (λ (n : ℕ). HasForm told.opening.catalog (is_in_use told w.seen) n image.sheet) (sym of.home) of.form) form_later;
-      runs = λ st opens. (let was = under.runs st opens in (was.0, goes_taken st opens was.0 was.1));
-    }
-      where
-        now_held : (q : ℕ) → q ≡ page → holds_of w.holds q ≡ true
-        now_held q e = ap (λ (hs : List Hold). holds_of hs q) holds ∙ put_at (holds_of v.holds) page true q e

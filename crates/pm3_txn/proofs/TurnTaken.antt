@@ -1,5 +1,5 @@
 -- The turn is taken, and given back.
-use Rattle.std.proofs.Common.{◌≡◌, ◌≤◌, ◌==◌, ◌++◌, ◌∙◌, inl, inr, ℕ, Bool, true, false, if◌then◌else◌, List, [], ◌∷◌, Option, Some, refl, sym, ap, subst, arith}
+use Rattle.std.proofs.Common.{◌≡◌, ◌≤◌, ◌==◌, ◌++◌, ◌∙◌, inl, inr, ℕ, Bool, true, false, if◌then◌else◌, List, [], ◌∷◌, Option, Some, None, refl, sym, ap, subst, arith}
 use Rattle.std.proofs.lemmas.Bool.{cases_eq, false≢true, eq-eqb}
 use Rattle.atomic_table.specs.Seated.{TableId}
 use Rattle.pm3_disk.specs.declared.outside.Disk.{Ghosts}
@@ -19,14 +19,18 @@ use Rattle.pm3_txn.specs.declared.values.Turn.{Turn as Turns}
 use Rattle.pm3_txn.specs.declared.values.Value.TheVariants.{Turn}
 use Rattle.pm3_txn.specs.Aborting.{HasOnlyGiven}
 use Rattle.pm3_txn.specs.Committing.{HasGivenTurn, HasTurn, MayGive}
-use Rattle.pm3_txn.specs.Runs.{GoesOn}
 use Rattle.pm3_txn.specs.Slots.{faults_in, pages_in, stands_for, turn_state}
 use Rattle.pm3_txn.specs.States.{MutatorState}
 use Rattle.pm3_txn.specs.Takes.{HasTaken, with_view}
 use Rattle.pm3_txn.specs.Touching.{nothing_more}
-use Rattle.pm3_txn.specs.Underway.{Belongs, IsUnder}
+use Rattle.pm3_txn.specs.Heaps.{IsBelow}
+use Rattle.pm3_txn.specs.Owners.{AdvancesOn, IsHolding}
+use Rattle.pm3_txn.specs.Underway.{Belongs, IsUnder, IsUnderway}
 use Rattle.pm3_txn.specs.Values.{IsTurnOf, TurnState}
-use Rattle.pm3_txn.proofs.Taking.{goes_later, under_later}
+use Rattle.pm3_txn.proofs.Advancing.{moment}
+use Rattle.pm3_txn.proofs.FurtherOn.{took_further, back_further, advances_further}
+use Rattle.pm3_txn.proofs.OwnerGoes.{holdings_go_on}
+use Rattle.pm3_txn.proofs.OwnerTakes.{holdings_alone}
 use Rattle.pm3_txn.proofs.Touched.{no_more}
 
 module _ {D R : Type 0} (g : Ghosts D R) (content : R → Option (List ℕ)) (heap : TableId × Told) where
@@ -38,10 +42,16 @@ module _ {D R : Type 0} (g : Ghosts D R) (content : R → Option (List ℕ)) (he
       of true is = (let low = (under.units (turn_unit heap.1.pages) (under.only (turn_unit heap.1.pages) is)).1 in absurd (omega (arith, low)))
       of false is = is
 
-  module _ (m n : MutatorState R) (h : Holding) (turn : Turns D R) (belongs : Belongs content heap m) (under : IsUnder heap.1 m.pass.1 h)
+  module _ (m n : MutatorState R) (h : Holding) (tag : ℕ) (turn : Turns D R) (was : IsUnderway content (moment heap tag m h)) (alone : h.space ≡ None) (below : IsBelow heap.1)
       (has : HasTaken g heap.1 m n (turn_unit heap.1.pages) (Some (Turn turn))) (kept : Belongs content heap n) where
     abbrev unit : ℕ
     unit = turn_unit heap.1.pages
+
+    under : IsUnder heap.1 m.pass.1 h
+    under = holdings_alone heap.1 m.pass.1 m.space h was.mutator.lawful alone was.holding
+
+    free : holds_of m.pass.1.holds unit ≡ false
+    free = turn_free m.pass.1 h under
 
     abbrev pub taken : Taken (stands_for g) pages_in (faults_in g) heap.1 m.pass.1 n.pass.1 unit (Some (Turn turn))
     taken = has.taken
@@ -71,6 +81,14 @@ module _ {D R : Type 0} (g : Ghosts D R) (content : R → Option (List ℕ)) (he
       | inr ne ↦ put_else (holds_of n.pass.1.holds) unit false u ne ∙ ap (λ (hs : List Hold). holds_of hs u) holds_now ∙ put_else (holds_of m.pass.1.holds) unit true u ne
     ]
 
+    own : n.space ≡ m.space
+    own = ap (λ (x : MutatorState R). x.space) has.rest
+
+    back_holding : IsHolding heap.1 (gave n.pass.1 unit) m.space h
+    back_holding =
+        let back = back_further g heap.1 m n unit (Some (Turn turn)) free has (gave n.pass.1 unit) refl in
+        (holdings_go_on heap.1 m.pass.1 (gave n.pass.1 unit) m.space h taken.between below back.0 was.holding).1 back.1
+
     pub has_turn : HasTurn g content heap n (turn_state turn) h
     has_turn = record {
       belongs = kept;
@@ -78,13 +96,14 @@ module _ {D R : Type 0} (g : Ghosts D R) (content : R → Option (List ℕ)) (he
       good = subst (λ (l : List Done). IsTurnOf g heap.1 n.pass.1.lost l unit (turn_state turn)) (sym turn_seen)
           (subst (λ (l : List Done). IsTurnOf g heap.1 l (m.pass.1.seen ++ taken.between) unit (turn_state turn)) (sym lost_now) taken.good);
       heard = turn_heard;
-      under = under_later heap.1 m.pass.1 (gave n.pass.1 unit) h taken.between under turn_seen kept.lawful taken.apart back_holds;
+      holding = subst (λ (k : ℕ). IsHolding heap.1 (gave n.pass.1 unit) k h) (sym own) back_holding;
+      under = holdings_alone heap.1 (gave n.pass.1 unit) m.space h kept.mutator.lawful alone back_holding;
       lawful_lost = subst (λ (l : List Done). Lawful heap.1 (n.pass.1.seen ++ l)) (sym lost_now) taken.sound.lawful_lost;
     }
 
     -- and what it had done goes on
-    pub turn_goes : GoesOn heap.1 m.pass.1 h n.pass.1 h nothing_more
-    turn_goes = goes_later heap.1 m.pass.1 n.pass.1 h taken.between under turn_seen kept.lawful taken.apart
+    pub turn_goes : AdvancesOn heap.1 m.pass.1 h n.pass.1 h nothing_more
+    turn_goes = advances_further content heap m n h tag taken.between below (took_further g heap.1 m n unit (Some (Turn turn)) free has) was
 
   -- the room of the journal is nothing to the turn
   pub has_room : (m : MutatorState R) (turn : TurnState D R) (room : Option ℕ) (h : Holding) → HasTurn g content heap m turn h
@@ -94,6 +113,7 @@ module _ {D R : Type 0} (g : Ghosts D R) (content : R → Option (List ℕ)) (he
     holds = has.holds;
     good = room_turn (turn_unit heap.1.pages) m.pass.1.lost m.pass.1.seen turn room has.good;
     heard = has.heard;
+    holding = has.holding;
     under = has.under;
     lawful_lost = has.lawful_lost;
   }
@@ -103,7 +123,9 @@ module _ {D R : Type 0} (g : Ghosts D R) (content : R → Option (List ℕ)) (he
       room_turn u lost seen t r is = record {
         unit = is.unit;
         origin = is.origin;
+        file_is = is.file_is;
         opened_well = is.opened_well;
+        opened_keeps = is.opened_keeps;
         page_count = is.page_count;
         summaries = is.summaries;
         due = is.due;
@@ -113,6 +135,8 @@ module _ {D R : Type 0} (g : Ghosts D R) (content : R → Option (List ℕ)) (he
         name_is = is.name_is;
         none = is.none;
         records_are = is.records_are;
+        tells = is.tells;
+        within = is.within;
         later = is.later;
         stopped_at = is.stopped_at;
         halted = is.halted;
@@ -127,7 +151,7 @@ module _ {D R : Type 0} (g : Ghosts D R) (content : R → Option (List ℕ)) (he
         (subst (λ (l : List Done). IsTurnOf g heap.1 m.pass.1.lost l (turn_unit heap.1.pages) turn) (no_more m.pass.1.seen) has.good);
     heard = (let same = has.heard in omega (arith, same));
     may = record {
-      lawful = subst (Lawful heap.1) (no_more m.pass.1.seen) has.belongs.lawful;
+      lawful = subst (Lawful heap.1) (no_more m.pass.1.seen) has.belongs.mutator.lawful;
       lawful_lost = subst (λ (l : List Done). Lawful heap.1 (l ++ (m.pass.1.lost ++ []))) (no_more m.pass.1.seen)
           (subst (λ (l : List Done). Lawful heap.1 (m.pass.1.seen ++ l)) (no_more m.pass.1.lost) has.lawful_lost);
       single = (inr refl, inr refl);

@@ -1,5 +1,6 @@
 -- The turn's value after an append.
-use Rattle.std.proofs.Common.{◌≡◌, ◌≢◌, ◌⊎◌, ◌<◌, ◌≤◌, ◌+◌, ◌^◌, ◌++◌, ◌∙◌, inl, inr, ℕ, true, List, [], ◌∷◌, map, length, Option, Some, None, Ok, is_some, refl, sym, ap, subst, arith, append_assoc}
+use Rattle.std.proofs.Common.{◌≡◌, ◌≢◌, ◌⊎◌, ⊎_elim, ◌<◌, ◌≤◌, ◌+◌, ◌^◌, ◌++◌, ◌||◌, ◌∙◌, inl, inr, ℕ, true, false, List, [], ◌∷◌, map, length, Option, Some, None, Ok, is_some, refl, sym, ap, subst, arith, append_assoc}
+use Rattle.std.proofs.lemmas.Bool.{false≢true}
 use Rattle.std.specs.Option.{option_map}
 use Rattle.std.specs.FinMap.{contains_key, get}
 use Rattle.pm3_core.specs.declared.naming.TheConstants.{BASE}
@@ -25,9 +26,13 @@ use Rattle.pm3_journal.specs.Summaries.{Summary, part_of, summary_of}
 use Rattle.pm3_history.specs.Entry.{Done}
 use Rattle.pm3_history.specs.Files.{AreRecordsOf, IsRecordOf}
 use Rattle.pm3_history.specs.State.{State}
+use Rattle.pm3_history.proofs.Laying.{some_none}
 use Rattle.pm3_table.specs.declared.view.Told.{Told}
+use Rattle.pm3_table.specs.Entries.{writes}
+use Rattle.pm3_table.specs.Histories.{some_has}
+use Rattle.pm3_table.proofs.Has.{has_one}
 use Rattle.pm3_txn.specs.Committing.{AreFiled, AreWritable, IsEntryFor, done_by, file_items}
-use Rattle.pm3_txn.specs.Values.{HasRecords, IsTurnOf, TurnState, due_after, next_name_after, summaries_from, summary_at}
+use Rattle.pm3_txn.specs.Values.{AreFiledRecords, HasRecords, IsFiledRecord, IsTurnOf, TurnState, due_after, next_name_after, summaries_from, summary_at}
 use Rattle.pm3_txn.proofs.Filed.{image_of_record, number_low, pages_same, parts_are}
 use Rattle.pm3_txn.proofs.Seeing.{now_later}
 
@@ -63,6 +68,16 @@ records_more catalog pages [] [] d r are is = (is, tt)
 records_more catalog pages [] (x ∷ xs) d r are is = absurd are
 records_more catalog pages (e ∷ es) [] d r are is = absurd are
 records_more catalog pages (e ∷ es) (x ∷ xs) d r are is = (are.0, records_more catalog pages es xs d r are.1 is)
+
+filed_records_more : (catalog : List Fields) (pages : ℕ) (rs : List JournalRecord) (r : JournalRecord) → AreFiledRecords catalog pages rs → IsFiledRecord catalog pages r
+    → AreFiledRecords catalog pages (rs ++ r ∷ [])
+filed_records_more catalog pages [] r are is = (is, tt)
+filed_records_more catalog pages (x ∷ xs) r are is = (are.0, filed_records_more catalog pages xs r are.1 is)
+
+-- what told nothing before tells nothing
+told_not : {before : Option (List ℕ)} (now : Option (List ℕ)) → before ≡ None → ((bytes : List ℕ) → now ≡ Some bytes → (was : List ℕ) × (before ≡ Some was)) → now ≡ None
+told_not None none back = refl
+told_not (Some bytes) none back = (let was = back bytes refl in absurd (some_none _ was.0 was.1 none))
 
 image_for : (catalog : List Fields) (o : Option PageImage) (bytes : List ℕ) → option_map (file_bytes catalog BASE) o ≡ Some bytes
     → (image : PageImage) × (o ≡ Some image) × (file_bytes catalog BASE image ≡ bytes)
@@ -131,12 +146,12 @@ module _ {D R : Type 0} (g : Ghosts D R) (told : Told) (lost seen : List Done) (
     pages = (ap (map page_in) parts_is ∙ pages_same catalog p.written.images) i;
   }
 
+  image_is : (q : ℕ) → image_in q r.parts None ≡ option_map (file_bytes catalog BASE) (get p.written.images q)
+  image_is q = ap (λ (l : List PagePart). image_in q l None) parts_is ∙ image_of_record catalog p.written.images q
+
   record_is : IsRecordOf catalog BASE told.pages d r
   record_is = record { tag = refl; next_name = refl; high_page = refl; images = images_of; written = written_of }
     where
-      image_is : (q : ℕ) → image_in q r.parts None ≡ option_map (file_bytes catalog BASE) (get p.written.images q)
-      image_is q = ap (λ (l : List PagePart). image_in q l None) parts_is ∙ image_of_record catalog p.written.images q
-
       images_of : (q : ℕ) (bytes : List ℕ) → image_in q r.parts None ≡ Some bytes → (sheet : Sheet) × (get d.written q ≡ Some sheet) × (page_read catalog BASE told.pages q bytes ≡ Ok sheet)
       images_of q bytes there =
           let from = image_for catalog (get p.written.images q) bytes (sym (image_is q) ∙ there) in
@@ -150,10 +165,29 @@ module _ {D R : Type 0} (g : Ghosts D R) (told : Told) (lost seen : List Done) (
       written_of : (q : ℕ) (sheet : Sheet) → get d.written q ≡ Some sheet → is_some (image_in q r.parts None) ≡ true
       written_of q sheet has = ap is_some (image_is q) ∙ bytes_for catalog (get p.written.images q) sheet (sym (get-sheets_of p.written.images q) ∙ has)
 
+  -- what it has of each page is written of the sheet as which it reads
+  record_filed : IsFiledRecord catalog told.pages r
+  record_filed q bytes there =
+      let from = image_for catalog (get p.written.images q) bytes (sym (image_is q) ∙ there) in
+      let low = writable q from.0 from.1 in (
+        from.0.sheet,
+        subst (λ (n : ℕ). page_read catalog BASE told.pages n bytes ≡ Ok from.0.sheet) low.0
+            (subst (λ (l : List ℕ). page_read catalog BASE told.pages from.0.page l ≡ Ok from.0.sheet) from.2 ((filed q from.0 from.1).back told.pages (omega (arith, small)) low.3)),
+        ap (λ (n : ℕ). file_bytes catalog BASE (record { page = n; sheet = from.0.sheet })) (sym low.0) ∙ from.2,
+      )
+
+  -- its pages are in the store
+  within_more : (q : ℕ) → some_has writes (seen ++ d ∷ []) q ≡ true → (2 ≤ q) × (q < told.pages)
+  within_more q has = ⊎_elim (is.within q) (λ one. of (get p.written.images q) refl one) (has_one writes seen (d ∷ []) q has)
+    where
+      of : (o : Option PageImage) → get p.written.images q ≡ o → some_has writes (d ∷ []) q ≡ true → (2 ≤ q) × (q < told.pages)
+      of None none one = absurd (false≢true (sym (ap (λ (o : Option Sheet). is_some o || false) (get-sheets_of p.written.images q ∙ ap sheet_in none)) ∙ one))
+      of (Some image) on one = (let low = writable q image on in (low.1, low.2))
+
   -- the journal has the record
   module _ (disk : D) (whole : t.journal.stopped ≡ None) (added : Steps (HasOneMore r) (g.content t.journal.disk) (g.content disk)) (calm : g.faults disk ≡ g.faults t.journal.disk) where
     abbrev more : TurnState D R
-    more = record { journal = grown r disk t.journal; next_name = e.next_name; high_page = e.high_page; opened = t.opened }
+    more = record { journal = grown r disk t.journal; next_name = e.next_name; high_page = e.high_page; file = t.file; opened = t.opened }
 
     summaries_now : more.journal.summaries ≡ told.opening.summaries ++ summaries_from told.opening.due (seen ++ d ∷ [])
     summaries_now =
@@ -162,10 +196,14 @@ module _ {D R : Type 0} (g : Ghosts D R) (told : Told) (lost seen : List Done) (
         ∙ ap (λ (l : List Summary). told.opening.summaries ++ l) (sym (summaries_more told.opening.due seen d))
 
     records_now : (first : List ℕ) (old : List JournalRecord) → t.opened.journal.stopped ≡ None → told.opening.journal ≡ Some first → records first ≡ Whole old
-        → (new : List JournalRecord) × AreRecordsOf catalog BASE told.pages (seen ++ d ∷ []) new × HasRecords g more.journal (old ++ new)
+        → (new : List JournalRecord) × AreRecordsOf catalog BASE told.pages (seen ++ d ∷ []) new × HasRecords g more.journal (old ++ new) × AreFiledRecords catalog told.pages new
     records_now first old runs open_told opened =
-        let before = is.records_are first old runs open_told opened in
-        (before.0 ++ r ∷ [], records_more catalog told.pages seen before.0 d r before.1 record_is, λ bytes at. both before.0 bytes (now_is before.0 before.2 bytes at))
+        let before = is.records_are first old runs open_told opened in (
+          before.0 ++ r ∷ [],
+          records_more catalog told.pages seen before.0 d r before.1 record_is,
+          (λ bytes at. both before.0 bytes (now_is before.0 before.2 bytes at)),
+          filed_records_more catalog told.pages before.0 r before.3 record_filed,
+        )
       where
         now_is : (new : List JournalRecord) → HasRecords g t.journal (old ++ new) → (bytes : List ℕ) → g.content disk ≡ Some bytes → records bytes ≡ Whole (old ++ (new ++ r ∷ []))
         now_is new has bytes at =
@@ -181,7 +219,9 @@ module _ {D R : Type 0} (g : Ghosts D R) (told : Told) (lost seen : List Done) (
     turn_grown = record {
       unit = is.unit;
       origin = is.origin;
+      file_is = is.file_is;
       opened_well = is.opened_well;
+      opened_keeps = is.opened_keeps;
       page_count = is.page_count;
       summaries = summaries_now;
       due = ap next_seq is.due ∙ sym (due_more told.opening.due seen d);
@@ -192,6 +232,8 @@ module _ {D R : Type 0} (g : Ghosts D R) (told : Told) (lost seen : List Done) (
       name_is = sym (name_more told.next_name seen d);
       none = λ none. absurd (more_some t.journal.summaries (summary_of r) none);
       records_are = records_now;
+      tells = λ _ none. told_not (g.content disk) (is.tells whole none) (λ bytes at. (let was = added.back bytes at in (was.0, was.1)));
+      within = within_more;
       later = (let low = is.later in omega (arith, low, calm));
       stopped_at = λ n at. absurd (cc (sym whole ∙ at));
       halted = is.halted;
@@ -217,10 +259,10 @@ module _ {D R : Type 0} (g : Ghosts D R) (told : Told) (lost seen : List Done) (
     torn = record t { journal = halted r disk t.journal }
 
     records_then : (first : List ℕ) (old : List JournalRecord) → t.opened.journal.stopped ≡ None → told.opening.journal ≡ Some first → records first ≡ Whole old
-        → (new : List JournalRecord) × AreRecordsOf catalog BASE told.pages seen new × HasRecords g torn.journal (old ++ new)
+        → (new : List JournalRecord) × AreRecordsOf catalog BASE told.pages seen new × HasRecords g torn.journal (old ++ new) × AreFiledRecords catalog told.pages new
     records_then first old runs open_told opened =
         let before = is.records_are first old runs open_told opened in
-        (before.0, before.1, λ bytes at. (λ none. absurd (cc none), now_is before.0 before.2 bytes at))
+        (before.0, before.1, (λ bytes at. (λ none. absurd (cc none), now_is before.0 before.2 bytes at)), before.3)
       where
         now_is : (new : List JournalRecord) → HasRecords g t.journal (old ++ new) → (bytes : List ℕ) → g.content disk ≡ Some bytes
             → (records bytes ≡ Whole (old ++ new)) ⊎ (records bytes ≡ Whole ((old ++ new) ++ r ∷ []))
@@ -230,7 +272,9 @@ module _ {D R : Type 0} (g : Ghosts D R) (told : Told) (lost seen : List Done) (
     turn_halted = record {
       unit = is.unit;
       origin = is.origin;
+      file_is = is.file_is;
       opened_well = is.opened_well;
+      opened_keeps = is.opened_keeps;
       page_count = is.page_count;
       summaries = is.summaries;
       due = is.due;
@@ -240,6 +284,8 @@ module _ {D R : Type 0} (g : Ghosts D R) (told : Told) (lost seen : List Done) (
       name_is = is.name_is;
       none = is.none;
       records_are = records_then;
+      tells = λ none. absurd (cc none);
+      within = is.within;
       later = (let low = is.later in omega (arith, low, up));
       stopped_at = λ n at. inr ((let low = is.later in omega (arith, low, rose)), cc at);
       halted = λ some none. cc none;

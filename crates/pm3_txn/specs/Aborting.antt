@@ -1,16 +1,20 @@
 -- What is left of a mutator whose transaction was aborted.
-use Rattle.std.specs.Prelude.{ℕ, ◌≡◌, ◌||◌, Bool, true, false, if◌then◌else◌, Some, is_some, slice_index_or}
+use Rattle.std.specs.Prelude.{ℕ, ◌≡◌, ◌⊎◌, ◌||◌, Bool, true, false, if◌then◌else◌, Option, Some, None, is_some, slice_index_or}
 use Rattle.std.specs.FinMap as map
 use Rattle.pm3_types.specs.Layout.{PageImage}
 use Rattle.pm3_page.specs.PageMap.{Images}
+use Rattle.pm3_access.specs.Holding.{SpaceState}
 use Rattle.pm3_table.specs.declared.view.Told.{Told}
 use Rattle.pm3_table.specs.declared.view.View.{View}
 use Rattle.pm3_table.specs.Deeds.{word_of, stands_of, marks_of}
-use Rattle.pm3_table.specs.Holds.{holds_of}
+use Rattle.pm3_table.specs.Holds.{holds_of, spans_of, is_in}
 use Rattle.pm3_table.specs.Passes.{Becomes}
+use Rattle.pm3_table.specs.Words.{space_unit}
+use Rattle.pm3_txn.specs.Knowing.{KnowsWord}
+use Rattle.pm3_txn.specs.Slots.{pages_of}
 use Rattle.pm3_txn.specs.States.{MutatorState}
 use Rattle.pm3_txn.specs.Takes.{with_view}
-use Rattle.pm3_txn.specs.Values.{IsPageOf}
+use Rattle.pm3_txn.specs.Values.{IsPageOf, IsSpaceOf}
 
 -- the place was written since the transaction began
 abbrev pub was_written : {R : Type 0} → MutatorState R → ℕ → Bool
@@ -34,6 +38,16 @@ HasOnlyGiven old new = new ≡ with_view old (record old.pass.1 { holds = new.pa
 abbrev pub AreOwed : Told → View → Images → Type 0
 AreOwed told v images = (q : ℕ) (image : PageImage) → map.get images q ≡ Some image → (holds_of v.holds q ≡ true) × IsPageOf told v.seen q image
 
+-- it holds the unit of the space, whose value is the last one here, with the pages that the view says; or there is no space
+abbrev pub IsSpaceOwed : Told → View → ℕ → Option SpaceState → Type 0
+IsSpaceOwed told v number None = Unit {0}
+IsSpaceOwed told v number (Some s) = (holds_of v.holds (space_unit told.pages number) ≡ true) × IsSpaceOf told v.seen (space_unit told.pages number) s
+    × ((p : ℕ) → is_in p (pages_of s) ≡ spans_of v.spans (space_unit told.pages number) p)
+
 -- it holds nothing else
-abbrev pub AreAll : View → Images → Type 0
-AreAll v images = (u : ℕ) → holds_of v.holds u ≡ true → is_some (map.get images u) ≡ true
+abbrev pub AreAll : Told → View → ℕ → Images → Option SpaceState → Type 0
+AreAll told v number images space = (u : ℕ) → holds_of v.holds u ≡ true → (is_some (map.get images u) ≡ true) ⊎ ((is_some space ≡ true) × (u ≡ space_unit told.pages number))
+
+-- each place of the row that is tagged as a reference and was not written holds nil or a persistent object
+abbrev pub RemembersUnwritten : {R : Type 0} → Told → MutatorState R → Type 0
+RemembersUnwritten told m = (q : ℕ) → slice_index_or m.refs q false ≡ true → was_written m q ≡ false → KnowsWord told m.pass.1 (word_of m.pass.1.log q)

@@ -12,8 +12,8 @@ use Rattle.pm3_table.specs.declared.view.View.{View}
 use Rattle.pm3_txn.specs.declared.faults.AccessFault.{AccessFault}
 use Rattle.pm3_txn.specs.declared.faults.AccessFault.TheVariants.{NoSuchTail}
 use Rattle.pm3_txn.specs.Answers.{with_step}
-use Rattle.pm3_txn.specs.Knowing.{name_at}
 use Rattle.pm3_txn.specs.ObjectValues.{HasNewValue, type_held}
+use Rattle.pm3_txn.specs.Owners.{name_here}
 use Rattle.pm3_txn.specs.Refusals.{HasObject, IsObjectRefusal}
 use Rattle.pm3_txn.specs.States.{TxnState, told_in, view_in}
 use Rattle.pm3_txn.specs.Touching.{Advances}
@@ -37,16 +37,16 @@ abbrev pub HasBytes : Told → Holding → ℕ → ℕ → List ℕ → Type 0
 HasBytes told h a from xs = (k : ℕ) → k < length xs → value_held told.opening.catalog BASE h a (Byte (from + k)) ≡ Some (slice_index xs k)
 
 -- they were read, one operation each
-abbrev pub bytes_read : Told → View → ℕ → ℕ → List ℕ → State → List (Op × ℕ) → List (Op × ℕ)
-bytes_read told v a from [] st done = done
-bytes_read told v a from (x ∷ xs) st done = bytes_read told v a (from + 1) xs st (with_step done (operation.Byte (name_at told v st a) from) x)
+abbrev pub bytes_read : Told → View → Holding → ℕ → ℕ → List ℕ → State → List (Op × ℕ) → List (Op × ℕ)
+bytes_read told v h a from [] st done = done
+bytes_read told v h a from (x ∷ xs) st done = bytes_read told v h a (from + 1) xs st (with_step done (operation.Byte (name_here told v h st a) from) x)
 
 -- The bytes of the tail of the object to which place i of the row leads, from one on, are these. Its page is held.
 pub record HasReadBytes {R : Type 0} (old new : TxnState R) (i from : ℕ) (xs : List ℕ) : Type 0 where
   pub address : ℕ
   pub object : HasObject old new i address
   pub bytes : HasBytes (told_in new) new.held address from xs
-  pub goes_on : Advances old new (bytes_read (told_in new) (view_in new) address from xs)
+  pub goes_on : Advances old new (bytes_read (told_in new) (view_in new) new.held address from xs)
 
 -- the bytes were written, one after another
 abbrev pub HasNewBytes : Told → Holding → Holding → ℕ → ℕ → List ℕ → Type 0
@@ -54,15 +54,15 @@ HasNewBytes told old new a from [] = new ≡ old
 HasNewBytes told old new a from (x ∷ xs) = (mid : Holding) × HasNewValue told old mid a (Byte from) false x × HasNewBytes told mid new a (from + 1) xs
 
 -- one operation each
-abbrev pub bytes_written : Told → View → ℕ → ℕ → List ℕ → State → List (Op × ℕ) → List (Op × ℕ)
-bytes_written told v a from [] st done = done
-bytes_written told v a from (x ∷ xs) st done = bytes_written told v a (from + 1) xs st (with_step done (operation.SetByte (name_at told v st a) from x) 0)
+abbrev pub bytes_written : Told → View → Holding → ℕ → ℕ → List ℕ → State → List (Op × ℕ) → List (Op × ℕ)
+bytes_written told v h a from [] st done = done
+bytes_written told v h a from (x ∷ xs) st done = bytes_written told v h a (from + 1) xs st (with_step done (operation.SetByte (name_here told v h st a) from x) 0)
 
 -- They were written in the object at an address, from one byte on. Nothing changed but what is held.
 pub record HasStoredBytes {R : Type 0} (old new : TxnState R) (a from : ℕ) (xs : List ℕ) : Type 0 where
   pub rest : new ≡ record old { held = new.held }
   pub bytes : HasNewBytes (told_in old) old.held new.held a from xs
-  pub goes_on : Advances old new (bytes_written (told_in old) (view_in old) a from xs)
+  pub goes_on : Advances old new (bytes_written (told_in old) (view_in old) old.held a from xs)
 
 -- they were written so where place i of the row leads, once the page was held
 pub record HasWrittenBytes {R : Type 0} (old new : TxnState R) (i from : ℕ) (xs : List ℕ) : Type 0 where
@@ -70,7 +70,7 @@ pub record HasWrittenBytes {R : Type 0} (old new : TxnState R) (i from : ℕ) (x
   pub address : ℕ
   pub object : HasObject old mid i address
   pub stored : HasStoredBytes mid new address from xs
-  pub goes_on : Advances old new (bytes_written (told_in mid) (view_in mid) address from xs)
+  pub goes_on : Advances old new (bytes_written (told_in mid) (view_in mid) mid.held address from xs)
 
 -- its page is held, but a byte of the run isn't there
 pub record IsShort {R : Type 0} (old new : TxnState R) (i from n : ℕ) (fault : AccessFault) : Type 0 where

@@ -26,12 +26,13 @@ use Rattle.pm3_txn.specs.declared.commit_fault.CommitEnd.{CommitEnd}
 use Rattle.pm3_txn.specs.declared.commit_fault.CommitEnd.TheVariants as end
 use Rattle.pm3_txn.specs.Aborting.{HasCleared, was_written}
 use Rattle.pm3_txn.specs.Frontiers.{IsTop}
-use Rattle.pm3_txn.specs.Runs.{RunsAfter}
+use Rattle.pm3_txn.specs.Knowing.{state_seen}
 use Rattle.pm3_txn.specs.States.{MutatorState, TxnState, told_in, view_in}
 use Rattle.pm3_txn.specs.Takes.{with_view}
 use Rattle.pm3_txn.specs.Touching.{Advances, nothing_more}
 use Rattle.pm3_txn.specs.Underway.{Belongs, HoldsNothing}
 use Rattle.pm3_txn.specs.Values.{WasStopped, due_after, next_name_after}
+use Rattle.pm3_txn.specs.Works.{Works}
 
 -- The commit is one of what the transaction holds: it writes the pages that are not as they were found.
 pub record IsCommitBy {R : Type 0} (t : TxnState R) (d : Done) : Type 0 where
@@ -75,7 +76,7 @@ pub record HasCommitted {R : Type 0} (old : TxnState R) (new : MutatorState R) (
   pub failed : new.pass.1.failed ≡ (view_in old).failed
   pub receipt_is : receipt ≡ record { seq = due_after (told_in old).opening.due ((view_in old).seen ++ between); pinned = 0; moved = 0 }
   pub run : (st : State) → Opens BASE (told_in old).pages (told_in old).opening st → (ops : List (Op × ℕ))
-      → RunsAfter (told_in old) (view_in old) old.held st ops
+      → Works (told_in old).opening.catalog (told_in old).pages (state_seen (told_in old) (view_in old) st) old.held ops
       → IsRun (told_in old).opening.catalog ops (now (told_in old).opening.catalog BASE st ((view_in old).seen ++ between)).graph
       (now (told_in old).opening.catalog BASE st new.pass.1.seen).graph
   pub heard : (view_in old).faults ≤ new.pass.1.faults

@@ -43,6 +43,7 @@ use Rattle.pm3_txn.specs.declared.values.Turn.{Turn as Turns}
 use Rattle.pm3_txn.specs.Aborting.{HasCleared, was_written}
 use Rattle.pm3_txn.specs.Commits.{HasOnlySeen}
 use Rattle.pm3_txn.specs.Frontiers.{IsTop}
+use Rattle.pm3_txn.specs.Owners.{IsHolding}
 use Rattle.pm3_txn.specs.Runs.{RunsAfter}
 use Rattle.pm3_txn.specs.States.{MutatorState}
 use Rattle.pm3_txn.specs.Underway.{Belongs, HoldsNothing, IsUnder}
@@ -94,6 +95,7 @@ pub record HasTurn {D R : Type 0} (g : Ghosts D R) (content : R → Option (List
   pub holds : holds_of m.pass.1.holds (turn_unit heap.1.pages) ≡ true
   pub good : IsTurnOf g heap.1 m.pass.1.lost m.pass.1.seen (turn_unit heap.1.pages) turn
   pub heard : m.pass.1.faults ≡ g.faults turn.journal.disk
+  pub holding : IsHolding heap.1 (gave m.pass.1 (turn_unit heap.1.pages)) m.space h
   pub under : IsUnder heap.1 (gave m.pass.1 (turn_unit heap.1.pages)) h
   pub lawful_lost : Lawful heap.1 (m.pass.1.seen ++ m.pass.1.lost)
 

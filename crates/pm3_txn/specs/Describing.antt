@@ -6,7 +6,7 @@ use Rattle.pm3_history.specs.Opens.{Opens}
 use Rattle.pm3_history.specs.State.{State}
 use Rattle.pm3_table.specs.declared.view.Told.{Told}
 use Rattle.pm3_table.specs.declared.view.View.{View}
-use Rattle.pm3_txn.specs.Knowing.{name_at}
+use Rattle.pm3_txn.specs.Owners.{name_here}
 use Rattle.pm3_txn.specs.Refusals.{HasObject}
 use Rattle.pm3_txn.specs.States.{TxnState}
 
@@ -17,5 +17,5 @@ pub record IsDescribed {R : Type 0} (old new : TxnState R) (i : ℕ) (of : Holdi
   pub is : of new.held address ≡ Some x
 
 -- whatever the files opened to, it is the name of the object at the address in the graph
-abbrev pub IsNameAt : Told → View → ℕ → ℕ → Type 0
-IsNameAt told v a n = (st : State) → Opens BASE told.pages told.opening st → name_at told v st a ≡ n
+abbrev pub IsNameHere : Told → View → Holding → ℕ → ℕ → Type 0
+IsNameHere told v h a n = (st : State) → Opens BASE told.pages told.opening st → name_here told v h st a ≡ n

@@ -23,6 +23,6 @@ pub record EndsWithTurn {D R : Type 0} (homes : List (Option (Value D R))) (turn
 abbrev pub HasTurnLast : {D R : Type 0} → List (Option (Value D R)) → Type 0
 HasTurnLast {D} {R} homes = (turn : Turns D R) × EndsWithTurn homes turn
 
--- the disk is that of the journal in the last value
-abbrev pub IsDiskOf : {D R : Type 0} → D → List (Option (Value D R)) → Type 0
-IsDiskOf {D} {R} disk homes = (turn : Turns D R) → EndsWithTurn homes turn → disk ≡ turn.journal.disk
+-- the disks are the page file and that of the journal in the last value
+abbrev pub AreDisksOf : {D R : Type 0} → D → D → List (Option (Value D R)) → Type 0
+AreDisksOf {D} {R} file disk homes = (turn : Turns D R) → EndsWithTurn homes turn → (file ≡ turn.file) × (disk ≡ turn.journal.disk)

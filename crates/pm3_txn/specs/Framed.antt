@@ -2,7 +2,7 @@
 -- of the values of slots; they stand here since a ghost member may name no proof of its own crate.
 use Rattle.std.specs.Prelude.{ℕ, ◌≡◌, ◌≢◌, ◌==◌, ◌&&◌, ◌||◌, Bool, true, false, cond, nat_lt, List, [], ◌∷◌, ◌++◌, Option, None, Some, is_some, unwrap_or, refl}
 use Rattle.std.specs.Option.{option_or}
-use Rattle.std.specs.FinMap.{get, empty}
+use Rattle.std.specs.FinMap.{get, empty, contains_key}
 use Rattle.std.proofs.Common.{ap, sym, ◌∙◌, subst}
 use Rattle.std.proofs.lemmas.Bool.{false≢true}
 use Rattle.pm3_core.specs.declared.naming.TheConstants.{BASE}
@@ -26,7 +26,7 @@ use Rattle.pm3_table.proofs.Unnamed.{not_written, not_its_space, not_the_space, 
 use Rattle.pm3_txn.specs.declared.values.Value.{Value}
 use Rattle.pm3_txn.specs.declared.values.Value.TheVariants.{Page, Space, Turn}
 use Rattle.pm3_txn.specs.Knowing.{is_in_use}
-use Rattle.pm3_txn.specs.Values.{IsPageOf, IsSpaceOf, after_pass, last_known, space_left}
+use Rattle.pm3_txn.specs.Values.{IsPageOf, IsSpaceOf, after_pass, last_known, space_left, space_use}
 use Rattle.pm3_txn.specs.Slots.{stands_for}
 
 not_there : {A : Type 0} (o : Option A) → is_some o ≡ false → o ≡ None
@@ -58,6 +58,11 @@ use_on : (told : Told) (h : List Done) (e : Done) (a : ℕ) → is_in_use told h
 use_on told h e a = in_use_still (is_memory_reference BASE told.pages a) (a == 0) (nat_lt (page_in BASE a) told.frontier)
     (some_has writes h (page_in BASE a)) (some_has writes (h ++ e ∷ []) (page_in BASE a)) (has_left writes h (e ∷ []) (page_in BASE a))
 
+or_rises : (a b c : Bool) → (a ≡ true → c ≡ true) → (a || b) ≡ true → (c || b) ≡ true
+or_rises true b c up is = ap (λ (x : Bool). x || b) (up refl)
+or_rises false b true up is = refl
+or_rises false b false up is = is
+
 page_framed : (told : Told) (h : List Done) (e : Done) (u : ℕ) (image : PageImage) → names told e u ≡ false → IsPageOf told h u image
     → IsPageOf told (h ++ e ∷ []) u image
 page_framed told h e u image free is =
@@ -84,7 +89,14 @@ space_framed told h e u s free is =
       unit = is.unit;
       low = is.low;
       last = is.last ∙ ap (λ (o : Option Images). unwrap_or o empty) (sym (left_before h e s.number none));
-      sound = is.sound;
+      sound = λ page image on. (let was = is.sound page image on in (
+        was.0,
+        was.1,
+        was.2,
+        form_for_more told.opening.catalog (space_use told h s.images) (space_use told (h ++ e ∷ []) s.images)
+            (λ a. or_rises (is_in_use told h a) (is_memory_reference BASE told.pages a && contains_key s.images (page_in BASE a)) (is_in_use told (h ++ e ∷ []) a) (use_on told h e a))
+            image.page image.sheet was.3,
+      ));
       free = is.free;
     }
 

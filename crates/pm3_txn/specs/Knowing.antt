@@ -1,5 +1,5 @@
 -- What a mutator knows of the words of its row.
-use Rattle.std.specs.Prelude.{ℕ, ◌≡◌, ◌⊎◌, ◌==◌, ◌&&◌, ◌||◌, Bool, true, false, nat_lt, List, is_some, unwrap_or, slice_index_or}
+use Rattle.std.specs.Prelude.{ℕ, ◌≡◌, ◌⊎◌, ◌==◌, ◌&&◌, ◌||◌, Bool, true, false, nat_lt, List, is_some, slice_index_or}
 use Rattle.std.specs.FinMap.{get}
 use Rattle.pm3_core.specs.declared.naming.TheConstants.{BASE}
 use Rattle.pm3_types.specs.Layout.{page_in}
@@ -46,7 +46,3 @@ KnowsWord told v a = (a ≡ 0) ⊎ KnowsReference told v a
 -- each place of the row that is tagged as a reference holds one
 abbrev pub Remembers : Told → View → List Bool → Type 0
 Remembers told v refs = (q : ℕ) → slice_index_or refs q false ≡ true → KnowsWord told v (word_of v.log q)
-
--- the name of the object at an address
-abbrev pub name_at : Told → View → State → ℕ → ℕ
-name_at told v st a = unwrap_or (get (persistent_book BASE (state_seen told v st)) a) 0

@@ -12,7 +12,14 @@ pub mod Crews
 pub mod Frontiers
 pub mod Starts
 pub mod Draining
+pub mod Gathering
 pub mod Runs
+pub mod Works
+pub mod WorkLaws
+pub mod Owners
+pub mod OwnerLaws
+pub mod DrawnLaws
+pub mod StepLaws
 pub mod TransactionLaws
 pub mod Touching
 pub mod Answers
@@ -28,3 +35,6 @@ pub mod Aborting
 pub mod ByteRuns
 pub mod Commits
 pub mod Committing
+pub mod Making
+pub mod Spaces
+pub mod Closing

@@ -5,8 +5,8 @@ use Rattle.pm3_access.specs.declared.places.Place.TheVariants.{Field, Tail, Byte
 use Rattle.pm3_table.specs.declared.unit.Busy as table
 use Rattle.pm3_txn.specs.declared.faults.AccessFault.{AccessFault}
 use Rattle.pm3_txn.specs.declared.faults.AccessFault.TheVariants.{NotAReference, NoSuchField, NoSuchTail}
-use Rattle.pm3_txn.specs.Answers.{reads_as, writes_as}
 use Rattle.pm3_txn.specs.ObjectValues.{HasValue, HasNewValue, Lacks}
+use Rattle.pm3_txn.specs.Owners.{reads_here, writes_here}
 use Rattle.pm3_txn.specs.Placing.{IsPlaced, IsRefusedPlace, busy_fault}
 use Rattle.pm3_txn.specs.Refusals.{HasObject, IsObjectRefusal}
 use Rattle.pm3_txn.specs.States.{TxnState, told_in, view_in}
@@ -17,7 +17,7 @@ pub record HasRead {R : Type 0} (old new : TxnState R) (i : ℕ) (place : Place)
   pub address : ℕ
   pub object : HasObject old new i address
   pub value : HasValue (told_in new) new.held address place is_ref x
-  pub goes_on : Advances old new (reads_as (told_in new) (view_in new) address value.map place x)
+  pub goes_on : Advances old new (reads_here (told_in new) (view_in new) new.held address value.map place x)
 
 -- a reference was read so, and put at place j of the row
 pub record HasReadInto {R : Type 0} (old new : TxnState R) (i : ℕ) (place : Place) (j : ℕ) : Type 0 where
@@ -25,13 +25,13 @@ pub record HasReadInto {R : Type 0} (old new : TxnState R) (i : ℕ) (place : Pl
   pub word : ℕ
   pub read : HasRead old mid i place true word
   pub placed : IsPlaced mid new j word true
-  pub goes_on : Advances old new (reads_as (told_in mid) (view_in mid) read.address read.value.map place word)
+  pub goes_on : Advances old new (reads_here (told_in mid) (view_in mid) mid.held read.address read.value.map place word)
 
 -- The value was written at a place of the object at an address, which is one operation more. Nothing changed but what is held.
 pub record HasStored {R : Type 0} (old new : TxnState R) (a : ℕ) (place : Place) (is_ref : Bool) (x : ℕ) : Type 0 where
   pub rest : new ≡ record old { held = new.held }
   pub value : HasNewValue (told_in old) old.held new.held a place is_ref x
-  pub goes_on : Advances old new (writes_as (told_in old) (view_in old) a value.map place x)
+  pub goes_on : Advances old new (writes_here (told_in old) (view_in old) old.held a value.map place x)
 
 -- it was written so where place i of the row leads, once the page was held
 pub record HasWritten {R : Type 0} (old new : TxnState R) (i : ℕ) (place : Place) (is_ref : Bool) (x : ℕ) : Type 0 where
@@ -39,7 +39,7 @@ pub record HasWritten {R : Type 0} (old new : TxnState R) (i : ℕ) (place : Pla
   pub address : ℕ
   pub object : HasObject old mid i address
   pub stored : HasStored mid new address place is_ref x
-  pub goes_on : Advances old new (writes_as (told_in mid) (view_in mid) address stored.value.map place x)
+  pub goes_on : Advances old new (writes_here (told_in mid) (view_in mid) mid.held address stored.value.map place x)
 
 -- the fault of an object of a type that lacks a place
 abbrev pub lack_of : ℕ → Place → AccessFault

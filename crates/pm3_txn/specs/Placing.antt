@@ -1,6 +1,7 @@
 -- What the calls of a transaction on its row make of it.
 use Rattle.std.specs.Prelude.{ℕ, ◌≡◌, Bool, true}
 use Rattle.pm3_table.specs.declared.unit.Busy.{Busy}
+use Rattle.pm3_table.specs.declared.unit.Full.{Full}
 use Rattle.pm3_txn.specs.declared.faults.AccessFault as access
 use Rattle.pm3_txn.specs.declared.faults.AccessFault.TheVariants as fault
 use Rattle.pm3_txn.specs.Puts.{HasPut, IsPinned, IsMarked}
@@ -10,6 +11,10 @@ use Rattle.pm3_txn.specs.Touching.{Advances, nothing_more}
 -- a page that was refused for a mark, as the fault of an access
 abbrev pub busy_fault : Busy → access.AccessFault
 busy_fault busy = fault.Busy busy.unit busy.word
+
+-- a counter at its limit, as the fault of an access
+abbrev pub full_fault : Full → access.AccessFault
+full_fault full = fault.Full full.what full.limit
 
 -- the place of the row has the word, under this tag, and the page that it names is pinned; all else is as it was
 pub record IsPlaced {R : Type 0} (old new : TxnState R) (j word : ℕ) (is_ref : Bool) : Type 0 where

@@ -13,7 +13,7 @@ use Rattle.pm3_txn.specs.declared.faults.AccessFault.TheVariants.{NotAReference,
 use Rattle.pm3_table.specs.Deeds.{word_of}
 use Rattle.pm3_types.specs.Layout.{page_in, word_in}
 use Rattle.pm3_access.specs.Access.{is_object_held}
-use Rattle.pm3_txn.specs.Knowing.{KnowsReference}
+use Rattle.pm3_txn.specs.Owners.{KnowsHere}
 use Rattle.pm3_txn.specs.Puts.{read_own}
 use Rattle.pm3_txn.specs.States.{TxnState, told_in, view_in}
 use Rattle.pm3_txn.specs.Touching.{HasTouched, IsTurnedAway, IsGivenBack, nothing_more}
@@ -45,7 +45,7 @@ IsReferencePlace t i = (slice_index_or t.mutator.refs i false ≡ true) × (word
 pub record HasObject {R : Type 0} (old new : TxnState R) (i a : ℕ) : Type 0 where
   pub place : IsReferencePlace old i
   pub word : a ≡ word_at old i
-  pub known : KnowsReference (told_in new) (view_in new) a
+  pub known : KnowsHere (told_in new) (view_in new) new.held a
   pub touched : HasTouched old new (page_in BASE a) nothing_more
   pub object : is_object_held BASE new.held a ≡ true
 

@@ -13,7 +13,6 @@ use Rattle.pm3_access.specs.Access.{AreSound}
 use Rattle.pm3_access.specs.Acts.{AreInPlace, left_images, found_images, left_part, found_part}
 use Rattle.pm3_access.specs.Holding.{Holding, image_in}
 use Rattle.pm3_history.specs.Homes.{IsHome}
-use Rattle.pm3_history.specs.Opens.{Opens}
 use Rattle.pm3_history.specs.Persistent.{persistent_book}
 use Rattle.pm3_history.specs.State.{State, all_images, now}
 use Rattle.pm3_table.specs.declared.view.Told.{Told}
@@ -36,8 +35,3 @@ pub record Runs (catalog : List Fields) (st : State) (h : Holding) (ops : List (
 -- the same after what a view has seen of the history from an opening
 abbrev pub RunsAfter : Told → View → Holding → State → List (Op × ℕ) → Type 0
 RunsAfter told v h st ops = Runs told.opening.catalog (now told.opening.catalog BASE st v.seen) h ops
-
--- From whatever the files opened to, and whatever the transaction had done before a call, it has done this much after it.
-abbrev pub GoesOn : Told → View → Holding → View → Holding → (State → List (Op × ℕ) → List (Op × ℕ)) → Type 0
-GoesOn told v h v' h' more = (st : State) → Opens BASE told.pages told.opening st → (ops : List (Op × ℕ))
-    → RunsAfter told v h st ops → RunsAfter told v' h' st (more st ops)

@@ -15,7 +15,7 @@ use Rattle.pm3_txn.specs.Values.{TurnState, IsPageOf, IsSpaceOf, IsTurnOf, origi
 
 -- what goes with the turn
 abbrev pub turn_state : {D R : Type 0} → Turns D R → TurnState D R
-turn_state t = record { journal = t.journal; next_name = t.next_name; high_page = t.high_page; opened = t.opened.value }
+turn_state t = record { journal = t.journal; next_name = t.next_name; high_page = t.high_page; file = t.file; opened = t.opened.value }
 
 -- the value stands for the unit after a history, where these commits failed
 abbrev pub stands_for : {D R : Type 0} → Ghosts D R → Told → List Done → List Done → ℕ → Value D R → Type 0

@@ -17,20 +17,25 @@ use Rattle.pm3_table.specs.Holds.{holds_of}
 use Rattle.pm3_table.specs.Telling.{Lawful}
 use Rattle.pm3_txn.specs.Knowing.{Remembers, is_in_use}
 use Rattle.pm3_txn.specs.Loads.{IsPersistent}
+use Rattle.pm3_txn.specs.Owners.{IsHolding, RemembersHere}
 use Rattle.pm3_txn.specs.Runs.{RunsAfter}
 use Rattle.pm3_txn.specs.States.{MutatorState, TxnState, told_in, view_in}
 use Rattle.pm3_txn.specs.Values.{IsPageOf}
 
--- A mutator of this heap, between two of its calls outside of a transaction or in one: it marks no page, remembers what is tagged
--- as a reference, has seen a lawful history, and its reader tells what the page file told. `content` is what a reader tells.
-pub record Belongs {R : Type 0} (content : R → Option (List ℕ)) (heap : TableId × Told) (m : MutatorState R) : Type 0 where
+-- A mutator of this heap, outside of a transaction or in one: it marks no page, has seen a lawful history, and its reader tells what
+-- the page file told. `content` is what a reader tells.
+pub record IsMutatorOf {R : Type 0} (content : R → Option (List ℕ)) (heap : TableId × Told) (m : MutatorState R) : Type 0 where
   pub of : m.pass.0 ≡ heap.0
   pub unmarked : (p : ℕ) → marks_of m.pass.1.log p ≡ false
-  pub known : Remembers heap.1 m.pass.1 m.refs
   pub lawful : Lawful heap.1 m.pass.1.seen
   pub reads : content m.reader ≡ heap.1.opening.file
   pub tags : (length m.refs ≡ 512) × (length m.wrote ≡ 512)
   pub space : m.space < 32
+
+-- between two of its calls outside of a transaction it remembers what is tagged as a reference
+pub record Belongs {R : Type 0} (content : R → Option (List ℕ)) (heap : TableId × Told) (m : MutatorState R) : Type 0 where
+  pub mutator : IsMutatorOf content heap m
+  pub known : Remembers heap.1 m.pass.1 m.refs
 
 -- the mutator holds nothing
 abbrev pub HoldsNothing : {R : Type 0} → MutatorState R → Type 0
@@ -50,5 +55,6 @@ pub record IsUnder (told : Told) (v : View) (h : Holding) : Type 0 where
 
 -- a transaction between two of its calls
 pub record IsUnderway {R : Type 0} (content : R → Option (List ℕ)) (t : TxnState R) : Type 0 where
-  pub belongs : Belongs content t.heap t.mutator
-  pub under : IsUnder (told_in t) (view_in t) t.held
+  pub mutator : IsMutatorOf content t.heap t.mutator
+  pub known : RemembersHere (told_in t) (view_in t) t.held t.mutator.refs t.mutator.wrote
+  pub holding : IsHolding (told_in t) (view_in t) t.mutator.space t.held

@@ -1,5 +1,5 @@
 -- For what the values of the table's slots stand.
-use Rattle.std.specs.Prelude.{ℕ, ◌≡◌, ◌≢◌, ◌⊎◌, ◌*◌, ◌^◌, ◌<◌, ◌≤◌, ◌==◌, true, cond, List, [], ◌∷◌, ◌++◌, length, Option, Some, None, unwrap_or, Ok}
+use Rattle.std.specs.Prelude.{ℕ, ◌≡◌, ◌≢◌, ◌⊎◌, ◌*◌, ◌^◌, ◌<◌, ◌≤◌, ◌==◌, true, cond, List, [], ◌∷◌, ◌++◌, length, Option, Some, None, unwrap_or, Ok, ◌&&◌, ◌||◌, Bool}
 use Rattle.std.specs.Option.{option_or}
 use Rattle.std.specs.FinMap as map
 use Rattle.std.specs.FinSet as set
@@ -8,16 +8,19 @@ use Rattle.pm3_disk.specs.Content.{IfTold}
 use Rattle.pm3_disk.specs.Faults.{Rose}
 use Rattle.pm3_disk.specs.declared.outside.Disk.{Ghosts}
 use Rattle.pm3_types.specs.Bytes.{piece}
-use Rattle.pm3_types.specs.Layout.{PageImage, Sheet}
-use Rattle.pm3_types.specs.PageForm.{HasForm, IsSound}
+use Rattle.pm3_types.specs.Fields.{Fields}
+use Rattle.pm3_types.specs.Layout.{PageImage, Sheet, page_in}
+use Rattle.pm3_types.specs.PageForm.{HasForm, is_memory_reference}
 use Rattle.pm3_types.specs.Shown.{Images}
-use Rattle.pm3_page.specs.PageBytes.{page_read}
+use Rattle.pm3_page.specs.PageMap as page_map
+use Rattle.pm3_page.specs.PageBytes.{file_bytes, page_read}
 use Rattle.pm3_page.specs.PageSheets.{sheets_of}
 use Rattle.pm3_access.specs.Holding.{SpaceState}
 use Rattle.pm3_journal.specs.Format.{JournalRecord}
 use Rattle.pm3_journal.specs.JournalState.{JournalState}
-use Rattle.pm3_journal.specs.Journals.{failed_list}
+use Rattle.pm3_journal.specs.Journals.{Keeps, failed_list}
 use Rattle.pm3_journal.specs.Opened.{IsOpenStore}
+use Rattle.pm3_journal.specs.Opening.{image_in}
 use Rattle.pm3_journal.specs.Reading.{next_seq}
 use Rattle.pm3_journal.specs.Records.{records, Whole}
 use Rattle.pm3_journal.specs.Summaries.{Summary}
@@ -28,6 +31,8 @@ use Rattle.pm3_history.specs.LastImages.{last_written}
 use Rattle.pm3_history.specs.Opens.{Origin, Opens}
 use Rattle.pm3_history.specs.State.{State, now}
 use Rattle.pm3_table.specs.declared.view.Told.{Told}
+use Rattle.pm3_table.specs.Entries.{writes}
+use Rattle.pm3_table.specs.Histories.{some_has}
 use Rattle.pm3_table.specs.Words.{space_unit, turn_unit}
 use Rattle.pm3_txn.specs.Knowing.{is_in_use}
 
@@ -56,13 +61,17 @@ pub record IsPageOf (told : Told) (h : List Done) (u : ℕ) (image : PageImage) 
   pub last : (st : State) → Opens BASE told.pages told.opening st
       → map.get (now told.opening.catalog BASE st h).pages u ≡ Some image.sheet
 
+-- After a history the word may be a reference on a page of a space with these images: to a page in use, or to one of the space.
+abbrev pub space_use : Told → List Done → page_map.Images → ℕ → Bool
+space_use told h images a = is_in_use told h a || (is_memory_reference BASE told.pages a && map.contains_key images (page_in BASE a))
+
 -- A space's value: its images are those of the space's last pass, or none, and have the form; no free page has an image.
 pub record IsSpaceOf (told : Told) (h : List Done) (u : ℕ) (s : SpaceState) : Type 0 where
   pub unit : u ≡ space_unit told.pages s.number
   pub low : s.number < 32
   pub last : sheets_of s.images ≡ unwrap_or (space_left h s.number) map.empty
   pub sound : (page : ℕ) (image : PageImage) → map.get s.images page ≡ Some image
-      → (image.page ≡ page) × (3 ≤ page) × (page < told.pages) × IsSound told.opening.catalog BASE told.pages image
+      → (image.page ≡ page) × (3 ≤ page) × (page < told.pages) × HasForm told.opening.catalog (space_use told h s.images) image.page image.sheet
   pub free : (page : ℕ) → set.contains s.free page ≡ true → (3 ≤ page) × (page < told.pages) × (map.get s.images page ≡ None)
 
 -- what goes with the turn: the journal, the marks with which the next commit begins, and the store as it was opened
@@ -70,6 +79,7 @@ pub record TurnState (D R : Type 0) : Type 0 where
   pub journal : JournalState D
   pub next_name : ℕ
   pub high_page : ℕ
+  pub file : D
   pub opened : Opened D R
 
 -- the summary of a commit's record
@@ -125,6 +135,15 @@ abbrev pub HasRecords : {D R : Type 0} → Ghosts D R → JournalState D → Lis
 HasRecords g j list = IfTold (g.content j.disk) (λ bytes. (j.stopped ≡ None → records bytes ≡ Whole list)
     × ((records bytes ≡ Whole list) ⊎ (records bytes ≡ Whole (list ++ failed_list j.failed))))
 
+-- what the record has of each page is written of the sheet as which it reads
+abbrev pub IsFiledRecord : List Fields → ℕ → JournalRecord → Type 0
+IsFiledRecord catalog pages r = (page : ℕ) (bytes : List ℕ) → image_in page r.parts None ≡ Some bytes
+    → (sheet : Sheet) × (page_read catalog BASE pages page bytes ≡ Ok sheet) × (file_bytes catalog BASE (record { page = page; sheet = sheet }) ≡ bytes)
+
+abbrev pub AreFiledRecords : List Fields → ℕ → List JournalRecord → Type 0
+AreFiledRecords catalog pages [] = Unit {0}
+AreFiledRecords catalog pages (r ∷ rs) = IsFiledRecord catalog pages r × AreFiledRecords catalog pages rs
+
 -- The journal that is stopped at a number was stopped so when it was opened, or a fault was counted since, when that number was
 -- due.
 abbrev pub WasStopped : Told → ℕ → ℕ → ℕ → Type 0
@@ -136,11 +155,14 @@ next_name_after first [] = first
 next_name_after first (d ∷ ds) = next_name_after d.next_name ds
 
 -- The turn's value: its journal has the opening's records and then those of the history, and the marks are those of the last
--- record, or those that were opened. Where a commit failed, the journal is stopped, with that commit's record.
+-- record, or those that were opened. Where a commit failed, the journal is stopped, with that commit's record. The commits write
+-- pages of the store from 2 on.
 pub record IsTurnOf {D R : Type 0} (g : Ghosts D R) (told : Told) (lost h : List Done) (u : ℕ) (t : TurnState D R) : Type 0 where
   pub unit : u ≡ turn_unit told.pages
   pub origin : origin_of g t.opened ≡ told.opening
+  pub file_is : t.file ≡ t.opened.pages
   pub opened_well : IsOpenStore g t.opened
+  pub opened_keeps : Keeps g t.opened.journal
   pub page_count : (t.journal.pages ≡ told.pages) × (t.opened.marks.pages ≡ told.pages)
   pub summaries : t.journal.summaries ≡ told.opening.summaries ++ summaries_from told.opening.due h
   pub due : t.journal.next ≡ due_after told.opening.due h
@@ -154,6 +176,9 @@ pub record IsTurnOf {D R : Type 0} (g : Ghosts D R) (told : Told) (lost h : List
   pub records_are : (first : List ℕ) (old : List JournalRecord) → t.opened.journal.stopped ≡ None → told.opening.journal ≡ Some first
       → records first ≡ Whole old
       → (new : List JournalRecord) × AreRecordsOf told.opening.catalog BASE told.pages h new × HasRecords g t.journal (old ++ new)
+      × AreFiledRecords told.opening.catalog told.pages new
+  pub tells : t.journal.stopped ≡ None → told.opening.journal ≡ None → g.content t.journal.disk ≡ None
+  pub within : (page : ℕ) → some_has writes h page ≡ true → (2 ≤ page) × (page < told.pages)
   pub later : told.opening.faults ≤ g.faults t.journal.disk
   pub stopped_at : (n : ℕ) → t.journal.stopped ≡ Some n → WasStopped told n t.journal.next (g.faults t.journal.disk)
   pub halted : lost ≢ [] → t.journal.stopped ≢ None

@@ -2,8 +2,8 @@
 ghost use Rattle.std.specs.Prelude.{◌≡◌, ℕ, ◌<◌, true, false, slice_index_or};
 ghost use Rattle.std.specs.FinMap.{contains_key};
 ghost use Rattle.pm3_table.specs.Holds.{holds_of};
-ghost use Rattle.pm3_txn.specs.Aborting.{AreAll, AreOwed, HasCleared, HasOnlyGiven, was_written};
-ghost use Rattle.pm3_txn.specs.Underway.{Belongs, HoldsNothing};
+ghost use Rattle.pm3_txn.specs.Aborting.{AreAll, AreOwed, HasCleared, HasOnlyGiven, IsSpaceOwed, RemembersUnwritten, was_written};
+ghost use Rattle.pm3_txn.specs.Underway.{Belongs, HoldsNothing, IsMutatorOf};
 
 use crate::heap::Heap;
 use crate::mutator::Mutator;
@@ -30,27 +30,35 @@ impl<D: Disk> Txn<'_, D> {
             held,
             tag: _,
         } = self;
-        let Undone {
-            pages,
-            written: _,
-            space: _,
-        } = held.undo();
-        restored(heap, mutator, pages)
+        restored(heap, mutator, held.undo())
     }
 }
 
-/// Gives all that the mutator holds back as it was found, and makes each place that it wrote a nil reference.
-pub(crate) fn restored<D: Disk>(heap: &Heap<D>, mutator: Mutator<D>, pages: Pages) -> Mutator<D>
-    requires of { Belongs D.Reader.content heap.now mutator }
-    requires owed { AreOwed heap.now.1 mutator.pass.1 pages.images }
-    requires all { AreAll mutator.pass.1 pages.images }
+/// Makes each place that the mutator wrote a nil reference, and then gives all that it holds back as it was found: no word of
+/// the row names an object of the space once others may have that.
+pub(crate) fn restored<D: Disk>(heap: &Heap<D>, mutator: Mutator<D>, undone: Undone) -> Mutator<D>
+    requires of { IsMutatorOf D.Reader.content heap.now mutator }
+    requires known { RemembersUnwritten heap.now.1 mutator }
+    requires owed { AreOwed heap.now.1 mutator.pass.1 undone.pages.images }
+    requires space { IsSpaceOwed heap.now.1 mutator.pass.1 mutator.space undone.space }
+    requires all { AreAll heap.now.1 mutator.pass.1 mutator.space undone.pages.images undone.space }
     ensures cleared { HasCleared mutator result (was_written mutator) }
     ensures bare { HoldsNothing result }
     ensures kept { Belongs D.Reader.content heap.now result }
 {
+    heap.page_count();
+    let Undone {
+        pages,
+        written: _,
+        space,
+    } = undone;
     let mut mutator = mutator;
-    give_all(&mut mutator, heap, pages);
     clear_written(&mut mutator, heap);
+    give_all(&mut mutator, heap, pages);
+    let Some(space) = space else {
+        return mutator;
+    };
+    mutator.give_space(heap, space);
     mutator
 }
 
@@ -76,14 +84,15 @@ pub(crate) fn give_all<D: Disk>(mutator: &mut Mutator<D>, heap: &Heap<D>, pages:
 
 /// Makes each place that was written since the transaction began a nil reference.
 fn clear_written<D: Disk>(mutator: &mut Mutator<D>, heap: &Heap<D>)
-    requires of { Belongs D.Reader.content heap.now mutator.old }
+    requires of { IsMutatorOf D.Reader.content heap.now mutator.old }
+    requires known { RemembersUnwritten heap.now.1 mutator.old }
     ensures cleared { HasCleared mutator.old mutator.new (was_written mutator.old) }
     ensures held { mutator.new.pass.1.holds ≡ mutator.old.pass.1.holds }
     ensures kept { Belongs D.Reader.content heap.now mutator.new }
 {
     for j in 0..ROW_PLACES {
         if mutator.has_written(j) {
-            mutator.clear(heap, j);
+            mutator.clear_word(heap, j);
         }
     }
 }

@@ -6,7 +6,7 @@ ghost use Rattle.pm3_types.specs.PageForm.{is_memory_reference};
 ghost use Rattle.pm3_access.specs.declared.places.Place.TheVariants.{Byte};
 ghost use Rattle.pm3_access.specs.Access.{AreSound, is_object_held, value_held};
 ghost use Rattle.pm3_txn.specs.ByteRuns.{HasBytes, HasReadBytes, HasRun, HasStoredBytes, HasWrittenBytes, IsFirstMissing, IsRunRefusal, has_byte};
-ghost use Rattle.pm3_txn.specs.Knowing.{KnowsReference};
+ghost use Rattle.pm3_txn.specs.Owners.{KnowsHere};
 ghost use Rattle.pm3_txn.specs.States.{told_in, view_in};
 
 use crate::faults::AccessFault;
@@ -135,7 +135,7 @@ impl<D: Disk> Txn<'_, D> {
 /// Writes bytes in the tail of an object whose page is held.
 fn store_bytes<D: Disk>(txn: &mut Txn<'_, D>, at: u64, from: u32, bytes: &[u8])
     requires object { is_object_held BASE txn.old.held at ≡ true }
-    requires known { KnowsReference (told_in txn.old) (view_in txn.old) at }
+    requires known { KnowsHere (told_in txn.old) (view_in txn.old) txn.old.held at }
     requires run { HasRun (told_in txn.old) txn.old.held at from (length bytes.now) }
     requires low { from + length bytes.now ≤ 2 ^ 32 }
     ensures stored { HasStoredBytes txn.old txn.new at from bytes.now }

@@ -42,6 +42,7 @@ impl<'h, D: Disk> Txn<'h, D> {
             held,
             tag,
         } = self;
+        heap.page_count();
         let mut mutator = mutator;
         match mutator.take_turn(heap) {
             Ok(turn) => commit_with(heap, mutator, turn, held, tag),

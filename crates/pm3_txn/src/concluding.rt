@@ -70,12 +70,7 @@ pub(crate) fn failed<D: Disk>(
 {
     let mut mutator = mutator;
     mutator.fail_turn(heap, turn, entry, &parted, fault);
-    let Undone {
-        pages,
-        written: _,
-        space: _,
-    } = parted.undo();
-    restored(heap, mutator, pages)
+    restored(heap, mutator, parted.undo())
 }
 
 impl CommitEnd {

@@ -1,16 +1,16 @@
-//! Homes are let go, and the journal's device is kept.
+//! Homes are let go, and the two devices are kept.
 ghost use Rattle.std.specs.Prelude.{◌≡◌, true, false, Some, length};
 ghost use Rattle.pm3_txn.specs.declared.values.Value.TheVariants.{Turn as Turns};
-ghost use Rattle.pm3_txn.specs.Draining.{AreNoTurns, HasTurnLast, IsDiskOf, is_turn};
+ghost use Rattle.pm3_txn.specs.Draining.{AreNoTurns, HasTurnLast, AreDisksOf, is_turn};
 
 use crate::values::{Turn, Value};
 use pm3_disk::Disk;
 use pm3_table::Homes;
 
-/// The device of the journal in the last home. The other values are let go.
-pub(crate) fn disk_of<D: Disk>(homes: Homes<Value<D>>) -> D
+/// The page file, and the device of the journal, in the last home. The other values are let go.
+pub(crate) fn disks_of<D: Disk>(homes: Homes<Value<D>>) -> (D, D)
     requires { HasTurnLast homes }
-    ensures { IsDiskOf result homes }
+    ensures { AreDisksOf result.0 result.1 homes }
 {
     let mut slots = homes.into_slots();
     let last = slots.pop();
@@ -20,12 +20,13 @@ pub(crate) fn disk_of<D: Disk>(homes: Homes<Value<D>>) -> D
         journal,
         next_name: _,
         high_page: _,
+        file,
         opened: _,
     } = turn_of(slot);
-    journal.into_disk()
+    (file, journal.into_disk())
 }
 
-fn let_go<D: Disk>(slots: Vec<Option<Value<D>>>)
+pub(crate) fn let_go<D: Disk>(slots: Vec<Option<Value<D>>>)
     requires { AreNoTurns slots.items (length slots.items) }
 {
     let mut slots = slots;
@@ -37,7 +38,7 @@ fn let_go<D: Disk>(slots: Vec<Option<Value<D>>>)
     slots.destroy_empty();
 }
 
-fn let_slot_go<D: Disk>(slot: Option<Value<D>>)
+pub(crate) fn let_slot_go<D: Disk>(slot: Option<Value<D>>)
     requires { is_turn slot ≡ false }
 {
     match slot {
@@ -48,7 +49,7 @@ fn let_slot_go<D: Disk>(slot: Option<Value<D>>)
     }
 }
 
-fn turn_of<D: Disk>(slot: Option<Value<D>>) -> Turn<D>
+pub(crate) fn turn_of<D: Disk>(slot: Option<Value<D>>) -> Turn<D>
     requires { is_turn slot ≡ true }
     ensures { slot ≡ Some (Turns result) }
 {

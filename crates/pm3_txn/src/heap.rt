@@ -1,5 +1,6 @@
 //! The heap, as its mutators share it.
 ghost use Rattle.std.specs.Prelude.{◌≡◌, ◌<◌, ◌≤◌};
+ghost use Rattle.pm3_txn.specs.Heaps.{IsBelow};
 
 use crate::values::Value;
 use pm3_disk::Disk;
@@ -12,8 +13,6 @@ use std::marker::Model;
 pub struct Heap<D: Disk> {
     pub(crate) shared: Shared<Value<D>>,
     pub(crate) catalog: Catalog,
-    /// The page file, on which no call is made until the heap is closed.
-    pub(crate) file: D,
     /// Loaded pages and what they refer to lie below it.
     pub(crate) frontier: u32,
 }
@@ -31,7 +30,7 @@ impl<D: Disk> Model for Heap<D> {
 
     ghost view = { λ h. h.shared };
 
-    ghost invariant = { λ h. IsHeap h.shared.1 h.catalog (D.content h.file) h.frontier };
+    ghost invariant = { λ h. IsHeap h.shared.1 h.catalog h.frontier };
 }
 
 impl<D: Disk> Heap<D> {
@@ -39,8 +38,10 @@ impl<D: Disk> Heap<D> {
     pub(crate) fn page_count(&self) -> u32
         ensures count { result ≡ self.now.1.pages }
         ensures small { self.now.1.pages < 16385 }
+        ensures first { 1 ≤ self.now.1.next_name }
         ensures least { 3 ≤ self.now.1.frontier }
         ensures most { self.now.1.frontier ≤ self.now.1.pages }
+        ensures below { IsBelow self.now.1 }
     {
         let _ = &self.catalog;
         self.shared.page_count()

@@ -1,6 +1,6 @@
 //! Types and names of objects.
 ghost use Rattle.std.specs.Prelude.{◌≡◌, ◌<◌, IfOk, IfErr};
-ghost use Rattle.pm3_txn.specs.Describing.{IsDescribed, IsNameAt};
+ghost use Rattle.pm3_txn.specs.Describing.{IsDescribed, IsNameHere};
 ghost use Rattle.pm3_txn.specs.ObjectValues.{name_held, type_held};
 ghost use Rattle.pm3_txn.specs.Refusals.{IsObjectRefusal, word_at};
 ghost use Rattle.pm3_txn.specs.States.{told_in, view_in};
@@ -32,7 +32,7 @@ impl<D: Disk> Txn<'_, D> {
         requires low { i < 512 }
         ensures heap { self.new.heap ≡ self.old.heap }
         ensures name { IfOk result (λ name. IsDescribed self.old self.new i name_held name) }
-        ensures named { IfOk result (λ name. IsNameAt (told_in self.new) (view_in self.new) (word_at self.old i) name) }
+        ensures named { IfOk result (λ name. IsNameHere (told_in self.new) (view_in self.new) self.new.held (word_at self.old i) name) }
         ensures refused { IfErr result (λ fault. IsObjectRefusal D.Reader.faults self.old self.new i fault) }
     {
         let at = match self.object(i) {

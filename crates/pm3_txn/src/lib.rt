@@ -23,6 +23,11 @@ mod frontiers;
 mod homes;
 mod start;
 
+// And its end: the values are gathered, and the store stands after the whole history.
+mod close_fault;
+mod closing;
+mod gathering;
+
 // The calls of a mutator on its own row and on units, and those by which mutators are made and end.
 mod crew;
 mod rows;
@@ -40,10 +45,12 @@ mod transaction;
 // Its accesses: what stands at the places of objects that are held, and the reads and writes of fields, tails and root slots.
 mod bytes;
 mod kinds;
+mod making;
 mod object_values;
 mod place_access;
 mod references;
 mod roots;
+mod spaces;
 mod tails;
 mod words;
 
@@ -57,11 +64,12 @@ mod turns;
 // Laws of transactions as values.
 mod laws;
 
+pub use close_fault::HeapCloseFault;
 pub use commit_fault::{CommitEnd, CommitFault, CommitRefusal};
 pub use crew::FreshFault;
 pub use faults::AccessFault;
 pub use heap::Heap;
-pub use laws::transaction_law;
+pub use laws::{drawn_law, holding_law, owner_law, step_law, transaction_law, works_law};
 pub use mutator::{Mutator, Tag};
 pub use start::StartFault;
 pub use transaction::Txn;

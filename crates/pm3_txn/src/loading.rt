@@ -9,7 +9,7 @@ ghost use Rattle.pm3_types.specs.PageForm.{IsSound};
 ghost use Rattle.pm3_table.specs.Telling.{Good};
 ghost use Rattle.pm3_txn.specs.Loads.{HasOnlyRead, IsPersistent};
 ghost use Rattle.pm3_txn.specs.Slots.{stands_for};
-ghost use Rattle.pm3_txn.specs.Underway.{Belongs};
+ghost use Rattle.pm3_txn.specs.Underway.{IsMutatorOf};
 ghost use Rattle.pm3_txn.specs.Values.{IsPageOf};
 
 use crate::heap::Heap;
@@ -48,7 +48,7 @@ impl<D: Disk> Mutator<D> {
         page: u32,
         slot: Option<Value<D>>,
     ) -> Result<Image, LoadFault>
-        requires of { Belongs D.Reader.content heap.now self.old }
+        requires of { IsMutatorOf D.Reader.content heap.now self.old }
         requires frontier { heap.now.1.frontier ≤ heap.now.1.pages }
         requires small { heap.now.1.pages < 16385 }
         requires page { IsPersistent heap.now.1 self.old.pass.1.seen page }

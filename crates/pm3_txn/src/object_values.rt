@@ -1,11 +1,14 @@
 //! What stands at the places of objects that are held, under the heap's catalog.
-ghost use Rattle.std.specs.Prelude.{◌≡◌, true, Some, IfOk, IfErr, OnOk, OnErr};
+ghost use Rattle.std.specs.Prelude.{◌≡◌, ◌↔◌, ℕ, ◌^◌, ◌<◌, Bool, true, Some, IsTrue, IfOk, IfErr, IfSome, OnOk, OnErr};
 ghost use Rattle.pm3_core.specs.declared.naming.TheConstants.{BASE};
 ghost use Rattle.pm3_types.specs.Fields.{is_reference};
+ghost use Rattle.pm3_types.specs.Layout.{tail_words};
 ghost use Rattle.pm3_types.specs.PageForm.{is_memory_reference};
-ghost use Rattle.pm3_access.specs.Access.{AreSound, is_object_held};
-ghost use Rattle.pm3_access.specs.Acts.{map_held};
+ghost use Rattle.pm3_access.specs.Access.{AreSound, HaveForm, is_object_held};
+ghost use Rattle.pm3_access.specs.Acts.{IsMakeStep, map_held};
+ghost use Rattle.pm3_access.specs.Making.{IsMade};
 ghost use Rattle.pm3_access.specs.Spots.{IsValueFor, has_names};
+ghost use Rattle.pm3_txn.specs.Making.{MayMake};
 ghost use Rattle.pm3_txn.specs.ObjectValues.{HasNewValue, HasValue, Lacks, name_held, tail_held, type_held};
 
 use crate::heap::Heap;
@@ -68,6 +71,17 @@ impl<D: Disk> Heap<D> {
         Ok(())
     }
 
+    /// Places a new object on the current page of the space that is held. None exactly where it does not fit there.
+    pub(crate) fn make(&self, held: &mut Held, ty: TypeNo, tail: u32, name: u64) -> Option<u64>
+        requires may { MayMake self.now.1.opening.catalog ty tail }
+        requires named { (0 < name) × (name < 2 ^ 62) }
+        ensures made { IsMade BASE self.now.1.opening.catalog held.old ty tail name result held.new }
+        ensures step { IfSome result (λ at. IsMakeStep self.now.1.opening.catalog BASE held.old ty tail name at held.new) }
+        ensures form { (refers : ℕ → Bool) → refers 0 ≡ true → HaveForm self.now.1.opening.catalog refers held.old → HaveForm self.now.1.opening.catalog refers held.new }
+    {
+        held.make(&self.catalog, ty, tail, name)
+    }
+
     /// The type of an object that is held.
     pub(crate) fn type_at(&self, held: &Held, at: u64) -> TypeNo
         requires object { is_object_held BASE held.now at ≡ true }
@@ -119,6 +133,33 @@ impl<D: Disk> Heap<D> {
             unreachable!()
         };
         map
+    }
+}
+
+impl<D: Disk> Heap<D> {
+    /// Whether objects of this type can be made with a tail of this length: the catalog has the type, its objects have a tail or the
+    /// length is 0, and such an object fits on a page.
+    pub fn may_make(&self, ty: TypeNo, tail: u32) -> bool
+        ensures { IsTrue result ↔ MayMake self.now.1.opening.catalog ty tail }
+    {
+        let Some(map) = self.catalog.get(ty) else {
+            return false;
+        };
+        if map.tail == Tail::Empty && tail != 0 {
+            return false;
+        }
+        u64::from(map.count) + tail_words(map.tail, tail) <= 508
+    }
+}
+
+/// The words of a tail of so many references or bytes.
+fn tail_words(tail: Tail, len: u32) -> u64
+    ensures { result ≡ tail_words tail len }
+{
+    match tail {
+        Tail::Empty => 0,
+        Tail::Refs => u64::from(len),
+        Tail::Bytes => (u64::from(len) + 7) / 8,
     }
 }
 

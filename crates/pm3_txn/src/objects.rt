@@ -43,7 +43,7 @@ impl<D: Disk> Txn<'_, D> {
         ensures read { self.new ≡ with_read self.old i }
     {
         let heap = self.heap;
-        self.mutator.stack_word(heap, i)
+        self.mutator.read_word(heap, i)
     }
 
     /// Whether an object begins at an address on a page that is held.

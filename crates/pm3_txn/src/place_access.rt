@@ -3,10 +3,10 @@ ghost use Rattle.std.specs.Prelude.{◌≡◌, ◌<◌, true, ℕ, false, IfOk, 
 ghost use Rattle.pm3_core.specs.declared.naming.TheConstants.{BASE};
 ghost use Rattle.pm3_access.specs.Access.{is_object_held};
 ghost use Rattle.pm3_access.specs.Spots.{IsValueFor};
-ghost use Rattle.pm3_txn.specs.Knowing.{KnowsReference, KnowsWord};
+ghost use Rattle.pm3_txn.specs.Owners.{KnowsHere, KnowsWordHere};
 ghost use Rattle.pm3_txn.specs.ObjectValues.{Lacks};
 ghost use Rattle.pm3_txn.specs.PlaceAccess.{HasRead, HasReadInto, HasStored, HasWritten, IsPlaceRefusal, IsReadRefusal, IsStoreRefusal, lack_of};
-ghost use Rattle.pm3_txn.specs.Placing.{busy_fault};
+ghost use Rattle.pm3_txn.specs.Placing.{busy_fault, full_fault};
 ghost use Rattle.pm3_txn.specs.Refusals.{word_at};
 ghost use Rattle.pm3_txn.specs.States.{told_in, view_in};
 
@@ -14,7 +14,7 @@ use crate::faults::AccessFault;
 use crate::transaction::Txn;
 use pm3_access::Place;
 use pm3_disk::Disk;
-use pm3_table::Busy;
+use pm3_table::{Busy, Full};
 use pm3_types::TypeNo;
 
 impl AccessFault {
@@ -25,6 +25,16 @@ impl AccessFault {
         match place {
             Place::Field(field) => AccessFault::NoSuchField { ty, field },
             Place::Tail(at) | Place::Byte(at) => AccessFault::NoSuchTail { ty, at },
+        }
+    }
+
+    /// A limit was reached.
+    pub(crate) fn of_full(full: Full) -> AccessFault
+        ensures { result ≡ full_fault full }
+    {
+        AccessFault::Full {
+            what: full.what,
+            limit: full.limit,
         }
     }
 
@@ -45,7 +55,7 @@ impl<D: Disk> Txn<'_, D> {
         requires low { i < 512 }
         ensures heap { self.new.heap ≡ self.old.heap }
         ensures read { IfOk result (λ value. HasRead self.old self.new i place is_ref value) }
-        ensures known { IfOk result (λ value. is_ref ≡ true → KnowsWord (told_in self.new) (view_in self.new) value) }
+        ensures known { IfOk result (λ value. is_ref ≡ true → KnowsWordHere (told_in self.new) (view_in self.new) self.new.held value) }
         ensures refused { IfErr result (λ fault. IsPlaceRefusal D.Reader.faults self.old self.new i place is_ref fault) }
     {
         let at = match self.object(i) {
@@ -86,9 +96,9 @@ impl<D: Disk> Txn<'_, D> {
         value: u64,
     ) -> Result<(), TypeNo>
         requires object { is_object_held BASE self.old.held at ≡ true }
-        requires known { KnowsReference (told_in self.old) (view_in self.old) at }
+        requires known { KnowsHere (told_in self.old) (view_in self.old) self.old.held at }
         requires value { IsValueFor place value }
-        requires word { is_ref ≡ true → KnowsWord (told_in self.old) (view_in self.old) value }
+        requires word { is_ref ≡ true → KnowsWordHere (told_in self.old) (view_in self.old) self.old.held value }
         ensures heap { self.new.heap ≡ self.old.heap }
         ensures stored { OnOk result (HasStored self.old self.new at place is_ref value) }
         ensures lacks { IfErr result (λ ty. Lacks (told_in self.old) self.old.held at place is_ref ty) }

@@ -1,7 +1,7 @@
 //! Root slots.
 ghost use Rattle.std.specs.Prelude.{◌≡◌, ◌<◌, ◌≤◌, true, is_some, IfOk, IfErr, OnOk};
 ghost use Rattle.pm3_access.specs.Holding.{image_in};
-ghost use Rattle.pm3_txn.specs.Knowing.{KnowsWord};
+ghost use Rattle.pm3_txn.specs.Owners.{KnowsWordHere};
 ghost use Rattle.pm3_txn.specs.Refusals.{IsTouchRefusal, word_at};
 ghost use Rattle.pm3_txn.specs.RootAccess.{HasRootRead, HasRootReadInto, HasRootStored, HasRootWritten, IsRootRefusal, IsRootStoreRefusal};
 ghost use Rattle.pm3_txn.specs.States.{told_in, view_in};
@@ -81,7 +81,7 @@ impl<D: Disk> Txn<'_, D> {
         requires low { slot < 16 }
         ensures heap { self.new.heap ≡ self.old.heap }
         ensures read { IfOk result (λ at. HasRootRead self.old self.new slot at) }
-        ensures known { IfOk result (λ at. KnowsWord (told_in self.new) (view_in self.new) at) }
+        ensures known { IfOk result (λ at. KnowsWordHere (told_in self.new) (view_in self.new) self.new.held at) }
         ensures refused { IfErr result (λ fault. IsTouchRefusal D.Reader.faults self.old self.new 2 fault) }
     {
         if let Err(fault) = self.touch_roots() {
@@ -95,7 +95,7 @@ impl<D: Disk> Txn<'_, D> {
     fn store_root(&mut self, slot: u32, at: u64)
         requires low { slot < 16 }
         requires held { is_some (image_in self.old.held 2) ≡ true }
-        requires known { KnowsWord (told_in self.old) (view_in self.old) at }
+        requires known { KnowsWordHere (told_in self.old) (view_in self.old) self.old.held at }
         ensures heap { self.new.heap ≡ self.old.heap }
         ensures stored { HasRootStored self.old self.new slot at }
     {

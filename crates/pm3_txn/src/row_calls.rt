@@ -1,6 +1,8 @@
 //! The calls of a transaction on the row of its mutator.
-ghost use Rattle.std.specs.Prelude.{◌≡◌, ◌<◌, false, true, slice_index_or, OnOk, IfErr};
-ghost use Rattle.pm3_txn.specs.Knowing.{KnowsWord};
+ghost use Rattle.std.specs.Prelude.{◌≡◌, ℕ, ◌<◌, false, true, slice_index_or, OnOk, IfErr};
+ghost use Rattle.pm3_table.specs.declared.unit.Unit.TheVariants.{Page};
+ghost use Rattle.pm3_table.specs.Telling.{HasInSpace};
+ghost use Rattle.pm3_txn.specs.Owners.{KnowsWordHere};
 ghost use Rattle.pm3_txn.specs.Placing.{IsPlaced, IsRefusedPlace, IsCleared};
 ghost use Rattle.pm3_txn.specs.Refusals.{with_read, word_at};
 ghost use Rattle.pm3_txn.specs.States.{told_in, view_in};
@@ -21,7 +23,7 @@ impl<D: Disk> Txn<'_, D> {
         ensures marked { IfErr result (λ busy. IsRefusedPlace self.old self.new j n busy) }
     {
         let heap = self.heap;
-        if let Err(busy) = self.mutator.put_number(heap, j, n) {
+        if let Err(busy) = self.mutator.put(heap, j, n, false) {
             return Err(busy);
         }
         Ok(())
@@ -36,7 +38,7 @@ impl<D: Disk> Txn<'_, D> {
         ensures marked { IfErr result (λ busy. IsRefusedPlace self.old self.new j (word_at self.old i) busy) }
     {
         let heap = self.heap;
-        if let Err(busy) = self.mutator.copy(heap, i, j) {
+        if let Err(busy) = self.mutator.copy_word(heap, i, j) {
             return Err(busy);
         }
         Ok(())
@@ -49,7 +51,7 @@ impl<D: Disk> Txn<'_, D> {
         ensures cleared { IsCleared self.old self.new j }
     {
         let heap = self.heap;
-        self.mutator.clear(heap, j);
+        self.mutator.clear_word(heap, j);
     }
 
     /// The tag of a place.
@@ -75,13 +77,14 @@ impl<D: Disk> Txn<'_, D> {
     /// place holds a nil reference.
     pub(crate) fn put_reference(&mut self, j: usize, at: u64) -> Result<(), Busy>
         requires low { j < 512 }
-        requires known { KnowsWord (told_in self.old) (view_in self.old) at }
+        requires known { KnowsWordHere (told_in self.old) (view_in self.old) self.old.held at }
         ensures heap { self.new.heap ≡ self.old.heap }
         ensures placed { OnOk result (IsPlaced self.old self.new j at true) }
         ensures marked { IfErr result (λ busy. IsRefusedPlace self.old self.new j at busy) }
+        ensures own { IfErr result (λ busy. (page k : ℕ) → busy.unit ≡ Page page → HasInSpace (told_in self.old) (view_in self.old) k page → ⊥) }
     {
         let heap = self.heap;
-        if let Err(busy) = self.mutator.put_reference(heap, j, at) {
+        if let Err(busy) = self.mutator.put(heap, j, at, true) {
             return Err(busy);
         }
         Ok(())

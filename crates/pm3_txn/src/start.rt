@@ -5,7 +5,7 @@ ghost use Rattle.pm3_txn.specs.Starts.{IsStarted, first_mutator};
 ghost use Rattle.pm3_txn.specs.Underway.{Belongs};
 
 use crate::crew::blank_row;
-use crate::draining::disk_of;
+use crate::draining::disks_of;
 use crate::frontiers::frontier_of;
 use crate::heap::Heap;
 use crate::homes::filled;
@@ -60,6 +60,7 @@ impl<D: Disk> Heap<D> {
             journal,
             next_name: marks.next_name,
             high_page: marks.high_page,
+            file,
             opened: whole,
         };
         let homes = filled(alloc, homes, marks.pages, images, turn);
@@ -74,7 +75,6 @@ impl<D: Disk> Heap<D> {
                 let heap = Heap {
                     shared,
                     catalog,
-                    file,
                     frontier,
                 };
                 let first = Mutator {
@@ -87,11 +87,14 @@ impl<D: Disk> Heap<D> {
                 };
                 Ok((heap, first))
             }
-            Err((_, homes)) => Err(StartFault {
-                pages: file,
-                journal: disk_of(homes),
-                reader,
-            }),
+            Err((_, homes)) => {
+                let (pages, journal) = disks_of(homes);
+                Err(StartFault {
+                    pages,
+                    journal,
+                    reader,
+                })
+            }
         }
     }
 }

@@ -13,15 +13,15 @@ use crate::values::Value;
 use pm3_disk::Disk;
 
 impl<D: Disk> Txn<'_, D> {
-    /// Holds a persistent page: it is taken, with its last image, where the transaction does not hold it yet.
+    /// Holds a page: one of which no image is held is persistent, and is taken with its last image.
     pub(crate) fn touch(&mut self, page: u32) -> Result<(), AccessFault>
-        requires page { IsPersistent (told_in self.old) (view_in self.old).seen page }
-        requires home { KnowsHome (told_in self.old) (view_in self.old) page }
+        requires page { image_in self.old.held page ≡ None → IsPersistent (told_in self.old) (view_in self.old).seen page }
+        requires home { image_in self.old.held page ≡ None → KnowsHome (told_in self.old) (view_in self.old) page }
         ensures heap { self.new.heap ≡ self.old.heap }
         ensures touched { OnOk result (HasTouched self.old self.new page nothing_more) }
         ensures refused { IfErr result (λ fault. IsTouchRefusal D.Reader.faults self.old self.new page fault) }
     {
-        if self.held.has(page) {
+        if self.held.image(page).is_some() {
             return Ok(());
         }
         self.take_page(page)

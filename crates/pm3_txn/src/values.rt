@@ -1,4 +1,9 @@
 //! The values of the table's slots.
+ghost use Rattle.std.specs.Prelude.{◌≡◌, ℕ, IsTrue, List, Some};
+ghost use Rattle.pm3_history.specs.Entry.{Done};
+ghost use Rattle.pm3_table.specs.declared.view.Told.{Told};
+ghost use Rattle.pm3_table.specs.Words.{turn_unit};
+ghost use Rattle.pm3_txn.specs.Draining.{is_turn};
 ghost use Rattle.pm3_txn.specs.Framed.{alike, framed};
 ghost use Rattle.pm3_txn.specs.Slots.{faults_in, opening_in, pages_in, stands_for};
 
@@ -17,6 +22,8 @@ pub struct Turn<D: Disk> {
     /// The next name and the high page with which the next commit begins.
     pub next_name: u64,
     pub high_page: u32,
+    /// The page file, on which no call is made until the heap is closed.
+    pub file: D,
     /// The store as it was opened, for clauses alone.
     pub opened: Snapshot<Opened<D>>,
 }
@@ -38,7 +45,10 @@ impl<D: Disk> Chronicle for Value<D> {
 
     ghost counted = { λ x. faults_in D.Disk x };
 
-    fn is_turn(&self) -> bool {
+    fn is_turn(&self) -> bool
+        ensures turn { IsTrue result → (told : Told) (lost h : List Done) (u : ℕ) → stands_for D.Disk told lost h u self.now → u ≡ turn_unit told.pages }
+        ensures exact { result ≡ is_turn (Some self.now) }
+    {
         matches!(self, Value::Turn(_))
     }
 

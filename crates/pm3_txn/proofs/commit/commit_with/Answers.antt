@@ -2,7 +2,7 @@ use Rattle.std.proofs.Common.{◌≡◌, ◌∙◌, ℕ, Ok, Err, inl, inr, ⊎_
 use Rattle.atomic_table.specs.Seated.{TableId}
 use Rattle.pm3_journal.specs.declared.faults.AppendFault.TheVariants.{Stopped}
 use Rattle.pm3_table.specs.declared.view.Told.{Told}
-use Rattle.pm3_txn.proofs.CommitWith.{end_is, fails, fit, keeps, kept_under, not_stopped, parted, recorded, records, sound, under}
+use Rattle.pm3_txn.proofs.CommitWith.{end_is, fails, fit, keeps, kept_underway, not_stopped, parted, recorded, records, sound, under}
 use Rattle.pm3_txn.proofs.commit.commit_with.Goals as goal
 
 pub entry_for-made-requires : goal.entry_for-made-requires
@@ -18,7 +18,7 @@ keep_turn-requires-clause-may g c = keeps g.D.Disk g.D.Reader.Reader.content c.a
     (c.page_count.ensures.small, c.page_count.ensures.least) c.in-Ok.ensures.joined c.in-Ok.ensures.rejoin c.in-Ok.ensures.written c.in-Ok.ensures.others c.entry_for-made.new.turn c.entry_for-made.ensures.room
 
 pub invariant_of-result : goal.invariant_of-result
-invariant_of-result g c = rw c.rejoin.ensures (kept_under g.D.Disk g.D.Reader.Reader.content c.args.heap.now c.args.mutator c.args.turn c.args.held c.args.tag c.in-Ok.parted c.requires.ready
+invariant_of-result g c = rw c.rejoin.ensures (kept_underway g.D.Disk g.D.Reader.Reader.content c.args.heap.now c.args.mutator c.args.turn c.args.held c.args.tag c.in-Ok.parted c.requires.ready
     (c.page_count.ensures.small, c.page_count.ensures.least) c.in-Ok.ensures.joined c.in-Ok.ensures.rejoin c.in-Ok.ensures.written c.in-Ok.ensures.others c.entry_for-made.new.turn c.entry_for-made.ensures.room c.keep_turn.new.self c.keep_turn.ensures.ended c.keep_turn.ensures.kept)
 
 pub append-requires-clause-fit : goal.append-requires-clause-fit

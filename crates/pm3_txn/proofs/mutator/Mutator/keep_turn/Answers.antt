@@ -6,4 +6,4 @@ give_turn-requires g c κs within =
     let belongs = (rw (← c.heap.view_is, ← c.self.view_is) at c.requires.of) in
     let held = (rw (← c.heap.view_is, ← c.self.view_is) at c.requires.held) in
     let may = (rw (← c.heap.view_is, ← c.self.view_is) at c.requires.may) in
-    (value_lives κs.1.1.0 g.row.D.lives g.row.D-Reader.lives within.0 within.1, (belongs.of, (held, (may.good, (may.heard, may.may)))))
+    (value_lives κs.1.1.0 g.row.D.lives g.row.D-Reader.lives within.0 within.1, (belongs.mutator.of, (held, (may.good, (may.heard, may.may)))))

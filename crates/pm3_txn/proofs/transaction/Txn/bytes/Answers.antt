@@ -2,18 +2,18 @@ use Rattle.std.proofs.Common.{subst}
 use Rattle.pm3_txn.specs.ByteRuns.{HasBytes}
 use Rattle.pm3_txn.specs.States.{told_in}
 use Rattle.pm3_txn.specs.Underway.{IsUnderway}
-use Rattle.pm3_txn.proofs.ObjectsHeld.{under_sound}
+use Rattle.pm3_txn.proofs.ObjectsHeld.{holding_sound}
 use Rattle.pm3_txn.proofs.ByteSteps.{bytes_here}
 use Rattle.pm3_txn.proofs.transaction.Txn.bytes.Goals as goal
 
 pub missing_byte-requires-clause-form : goal.missing_byte-requires-clause-form
-missing_byte-requires-clause-form g c = under_sound c.self.inside.heap.now.1 c.self.inside.mutator.pass.1 c.self.inside.held c.self.invariant.under
+missing_byte-requires-clause-form g c = holding_sound c.self.inside.heap.now.1 c.self.inside.mutator.pass.1 c.self.inside.mutator.space c.self.inside.held c.self.invariant.holding
 
 pub type_at-ty-requires-clause-form : goal.type_at-ty-requires-clause-form
-type_at-ty-requires-clause-form g c = under_sound c.self.inside.heap.now.1 c.self.inside.mutator.pass.1 c.self.inside.held c.self.invariant.under
+type_at-ty-requires-clause-form g c = holding_sound c.self.inside.heap.now.1 c.self.inside.mutator.pass.1 c.self.inside.mutator.space c.self.inside.held c.self.invariant.holding
 
 pub read_bytes-requires-clause-form : goal.read_bytes-requires-clause-form
-read_bytes-requires-clause-form g c = under_sound c.self.inside.heap.now.1 c.self.inside.mutator.pass.1 c.self.inside.held c.self.invariant.under
+read_bytes-requires-clause-form g c = holding_sound c.self.inside.heap.now.1 c.self.inside.mutator.pass.1 c.self.inside.mutator.space c.self.inside.held c.self.invariant.holding
 
 pub returns-clause-read : goal.returns-clause-read
 returns-clause-read g c =

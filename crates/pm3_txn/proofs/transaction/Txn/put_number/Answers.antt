@@ -1,12 +1,13 @@
-use Rattle.std.proofs.Common.{true, false}
-use Rattle.pm3_txn.proofs.Advancing.{put_under, put_placed}
+use Rattle.std.proofs.Common.{inl, true, false, refl}
+use Rattle.std.proofs.lemmas.Bool.{false≢true}
+use Rattle.pm3_txn.proofs.Advancing.{put_underway, put_placed}
 use Rattle.pm3_txn.proofs.transaction.Txn.put_number.Goals as goal
 
 pub invariant_of-self : goal.invariant_of-self
-invariant_of-self g c = put_under g.D.Reader.Reader.content c.self.inside.heap.now c.self.inside.mutator c.put_number.new.self c.self.inside.held c.self.inside.tag c.args.j 0 true c.in-Err.ensures.cleared c.self.invariant.under c.put_number.ensures.kept
+invariant_of-self g c = put_underway g.D.Reader.Reader.content c.self.inside.heap.now c.self.inside.mutator c.put.new.self c.self.inside.held c.self.inside.tag c.args.j 0 true c.in-Err.ensures.cleared c.requires.low (λ _. inl refl) c.self.invariant c.put.ensures.kept
 
 pub invariant_of-self-2 : goal.invariant_of-self-2
-invariant_of-self-2 g c = put_under g.D.Reader.Reader.content c.self.inside.heap.now c.self.inside.mutator c.put_number.new.self c.self.inside.held c.self.inside.tag c.args.j c.args.n false c.in_default.ensures.put c.self.invariant.under c.put_number.ensures.kept
+invariant_of-self-2 g c = put_underway g.D.Reader.Reader.content c.self.inside.heap.now c.self.inside.mutator c.put.new.self c.self.inside.held c.self.inside.tag c.args.j c.args.n false c.in_default.ensures.put c.requires.low (λ e. absurd (false≢true e)) c.self.invariant c.put.ensures.kept
 
 pub returns-clause-placed : goal.returns-clause-placed
-returns-clause-placed g c = rw (← c.self.view_is) (put_placed g.D.Reader.Reader.content c.self.inside.heap.now c.self.inside.mutator c.put_number.new.self c.self.inside.held c.self.inside.tag c.args.j c.args.n false c.in_default.ensures.put c.in_default.ensures.pinned c.in_default.ensures.calm)
+returns-clause-placed g c = rw (← c.self.view_is) (put_placed g.D.Reader.Reader.content c.self.inside.heap.now c.self.inside.mutator c.put.new.self c.self.inside.held c.self.inside.tag c.args.j c.args.n false c.in_default.ensures.put c.in_default.ensures.pinned c.in_default.ensures.calm)
