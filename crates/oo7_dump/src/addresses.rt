@@ -1,12 +1,8 @@
-//! The pages and the words that addresses name.
-ghost use Rattle.std.specs.Prelude.{◌≡◌, ◌^◌, ◌<◌, true};
+//! The pages and the words of a store that addresses name.
+ghost use Rattle.std.specs.Prelude.{◌≡◌, ◌<◌, true};
 ghost use Rattle.pm3_types.specs.Layout.{is_address, page_in, word_in};
 
-use pm3_core::PAGE_BYTES;
-use pm3_page::{Addr, BASE, PageNo};
-
-/// The page of the roots.
-pub(crate) const ROOTS_PAGE: PageNo = 2;
+use pm3_page::{Addr, BASE, PageNo, word_within};
 
 /// The page of a store of so many pages on which an address lies.
 #[tactic(auto, unfolding(pm3_types::specs::Layout::page_in), using(pm3_types::proofs::Addressing::above_base))]
@@ -19,34 +15,6 @@ pub(crate) fn page_of(at: Addr, pages: u32) -> PageNo
         Some(page) => page,
         None => unreachable!(),
     }
-}
-
-/// Whether it is the address of a word of some page.
-#[tactic(auto, unfolding(pm3_types::specs::Layout::is_address))]
-pub(crate) fn is_word(at: Addr) -> bool
-    ensures { result ≡ is_address BASE at }
-{
-    at >= BASE && (at - BASE) % 8 == 0
-}
-
-/// The page on which an address lies.
-#[tactic(auto, unfolding(pm3_types::specs::Layout::page_in), using(pm3_types::proofs::Addressing::above_base))]
-pub(crate) fn page_within(at: Addr) -> usize
-    requires { is_address BASE at ≡ true }
-    ensures page { result ≡ page_in BASE at }
-    ensures low { result < 2 ^ 63 }
-{
-    ((at - BASE) / PAGE_BYTES) as usize
-}
-
-/// The word of its page at which an address lies.
-#[tactic(auto, unfolding(pm3_types::specs::Layout::word_in), using(pm3_types::proofs::Addressing::above_base))]
-pub(crate) fn word_within(at: Addr) -> usize
-    requires { is_address BASE at ≡ true }
-    ensures word { result ≡ word_in BASE at }
-    ensures low { result < 512 }
-{
-    ((at - BASE) % PAGE_BYTES / 8) as usize
 }
 
 /// The word of its page at which an address lies, as a page's faults are told.

@@ -11,14 +11,13 @@ ghost use Rattle.oo7_dump.specs.Lost.{IsOneLost};
 ghost use Rattle.oo7_dump.specs.Places.{HasPlaces};
 ghost use Rattle.oo7_dump.specs.Raw.{raw_at, root_words};
 
-use crate::addresses::ROOTS_PAGE;
 use crate::faults::DumpFault;
 use crate::holding::image_at;
 use crate::meeting::meet_places;
 use crate::met::Met;
 use crate::object::places_of;
 use pm3_disk::Reader;
-use pm3_page::{Addr, Image, Pages};
+use pm3_page::{Addr, Image, Pages, ROOTS_PAGE};
 use pm3_types::{Catalog, Memory, TypeMap};
 use std::alloc::Global;
 

@@ -4,9 +4,8 @@ ghost use Rattle.pm3_core.specs.declared.naming.TheConstants.{BASE};
 ghost use Rattle.pm3_types.specs.Layout.{is_address};
 ghost use Rattle.pm3_types.specs.Numbering.{is_among, number_of};
 
-use crate::addresses::page_within;
 use crate::tables::Tables;
-use pm3_page::Addr;
+use pm3_page::{Addr, page_within};
 use pm3_types::Memory;
 use std::alloc::Global;
 use std::marker::Model;
@@ -83,7 +82,7 @@ impl Met {
         if number > MOST_NUMBERS {
             return Err(Memory);
         }
-        match self.tables.make(page_within(at)) {
+        match self.tables.make(page_within(at) as usize) {
             Ok(()) => {}
             Err(Memory) => return Err(Memory),
         }

@@ -4,8 +4,7 @@ ghost use Rattle.pm3_core.specs.declared.naming.TheConstants.{BASE};
 ghost use Rattle.pm3_types.specs.Layout.{is_address, page_in};
 ghost use Rattle.oo7_dump.specs.Numbers.{AreTables, end_of, noted};
 
-use crate::addresses::{is_word, page_within, word_within};
-use pm3_page::Addr;
+use pm3_page::{Addr, is_word, page_within, word_within};
 use pm3_types::Memory;
 use std::alloc::Global;
 
@@ -40,7 +39,7 @@ impl Tables {
         if !is_word(at) {
             return None;
         }
-        let end = self.end(page_within(at));
+        let end = self.end(page_within(at) as usize);
         if end < PAGE_WORDS {
             return None;
         }
@@ -90,7 +89,7 @@ impl Tables {
         ensures tables { AreTables self.new.ends.items self.new.numbers.items }
         ensures set { (a : ℕ) → noted self.new.ends.items self.new.numbers.items a ≡ cond (a == at) (Some number) (noted self.old.ends.items self.old.numbers.items a) }
     {
-        let end = self.end(page_within(at));
+        let end = self.end(page_within(at) as usize);
         self.numbers[end - PAGE_WORDS + word_within(at)] = number;
     }
 }

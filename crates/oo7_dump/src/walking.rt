@@ -10,14 +10,13 @@ ghost use Rattle.oo7_dump.specs.Loads.{fault_of, Loads};
 ghost use Rattle.oo7_dump.specs.Lost.{AreMentioned, HasLost, IsOneLost};
 ghost use Rattle.oo7_dump.specs.Raw.{raw_at, root_words};
 
-use crate::addresses::ROOTS_PAGE;
 use crate::faults::DumpFault;
 use crate::holding::hold;
 use crate::looking::{look_at, root_addresses};
 use crate::meeting::meet_all;
 use crate::met::Met;
 use pm3_disk::Reader;
-use pm3_page::Pages;
+use pm3_page::{Pages, ROOTS_PAGE};
 use pm3_types::{Catalog, Memory};
 use std::alloc::Global;
 

@@ -1,33 +1,12 @@
 -- The words of a page on which a new object was placed.
-use Rattle.std.proofs.Common.{◌≡◌, ◌≢◌, ◌<◌, ◌≤◌, ◌+◌, ◌-◌, ◌*◌, ◌^◌, ◌++◌, ◌∙◌, ℕ, zero, suc, true, false, List, length, get_or, set, take, drop, replicate, refl, sym, arith, length-set, length-append, length-drop, length-take-le, get_or-set_other, get_or-set_same, get_or-take}
+use Rattle.std.proofs.Common.{◌≡◌, ◌≢◌, ◌<◌, ◌≤◌, ◌+◌, ◌-◌, ◌*◌, ◌^◌, ◌∙◌, ℕ, zero, suc, true, false, List, length, get_or, set, replicate, refl, sym, arith, length-set, get_or-set_other, get_or-set_same}
 use Rattle.std.proofs.lemmas.Bool.{false_from_ne_true, leb-true}
-use Rattle.std.proofs.lemmas.List.{length-replicate, get_or-replicate, get_or_append_left, get_or-append_right}
+use Rattle.std.proofs.lemmas.List.{length-replicate}
 use mathlib.Core.Bool.{true≢false}
 use Rattle.pm3_types.specs.Fields.{Fields}
 use Rattle.pm3_types.specs.Layout.{Sheet, IsLaid, blank_sheet, is_start, is_forwarded, type_in, tail_in, end_of, used_in, head_of, page_head, zeroed, placed}
 use Rattle.pm3_types.proofs.FormedObjects.{blank_starts}
-
-abbrev none : ℕ
-none = 0
-
-module _ (words : List ℕ) (from to : ℕ) (order : from ≤ to) (within : to ≤ length words) where
-  front_length : length (take from words ++ replicate (to - from) 0) ≡ to
-  front_length = omega (arith, length-append (take from words) (replicate (to - from) 0), length-take-le from words (omega arith), length-replicate (to - from) none)
-
-  length-zeroed : length (zeroed words from to) ≡ length words
-  length-zeroed = omega (arith, length-append (take from words ++ replicate (to - from) 0) (drop to words), front_length, length-drop to words)
-
-  zeroed_before : (i : ℕ) → i < from → get_or (zeroed words from to) i 0 ≡ get_or words i 0
-  zeroed_before i low =
-      get_or_append_left (take from words ++ replicate (to - from) 0) (drop to words) 0 i (omega (arith, front_length))
-      ∙ get_or_append_left (take from words) (replicate (to - from) 0) 0 i (omega (arith, length-take-le from words (omega arith)))
-      ∙ get_or-take from words i 0 low
-
-  zeroed_within : (i : ℕ) → from ≤ i → i < to → get_or (zeroed words from to) i 0 ≡ 0
-  zeroed_within i high low =
-      get_or_append_left (take from words ++ replicate (to - from) 0) (drop to words) 0 i (omega (arith, front_length))
-      ∙ get_or-append_right (take from words) (replicate (to - from) none) from i 0 (length-take-le from words (omega arith)) high
-      ∙ get_or-replicate (to - from) (i - from) none none (omega arith)
+use Rattle.pm3_types.proofs.ZeroedWords.{length-zeroed, zeroed_before, zeroed_within}
 
 module _ (catalog : List Fields) (page : ℕ) (sheet : Sheet) (size head name : ℕ) (laid : IsLaid catalog sheet) (two : 2 ≤ size) (fits : end_of sheet + size ≤ 512) where
   abbrev now : Sheet
@@ -92,6 +71,9 @@ tail_of_head ty tail low small = omega arith
 pub head_unmoved : (ty tail : ℕ) → ty < 65536 → tail < 2 ^ 32 → is_forwarded (head_of ty tail) ≡ false
 unfolding is_forwarded head_of
 head_unmoved ty tail low small = false_from_ne_true _ (λ e. let high : 2 ^ 63 ≤ ty + 65536 * tail = leb-true (2 ^ 63) (ty + 65536 * tail) e in omega arith)
+
+abbrev none : ℕ
+none = 0
 
 -- on a page of zeros no object lies
 zeros_read : (n i : ℕ) → get_or (replicate n none) i 0 ≡ 0

@@ -1,52 +1,18 @@
 //! Accesses to the places of objects, with the answers that were worked out by hand.
-ghost use Rattle.std.specs.Prelude.{◌≡◌, ◌≤◌, ℕ, List, true, IfOk, OnOk};
+ghost use Rattle.std.specs.Prelude.{◌≡◌, true};
 ghost use Rattle.pm3_core.specs.declared.naming.TheConstants.{BASE};
-ghost use Rattle.pm3_types.specs.Fields.{Fields};
 ghost use Rattle.pm3_types.specs.PageForm.{is_memory_reference};
 ghost use Rattle.pm3_access.specs.Access.{AreSound, is_object_held};
 
 use super::*;
-use pm3_page::{Addr, BASE, Image, PageNo};
-use pm3_types::{Catalog, Tail, TypeMap, TypeNo};
+use crate::trial_steps::{CHUNK, PART, make, one_page, two_types};
+use pm3_page::{Addr, BASE, PageNo};
+use pm3_types::{Catalog, TypeNo};
 use std::alloc::Global;
 use std::test::Fail;
 
-/// Two fields, the second a reference, and a tail of references.
-const PART: TypeNo = 0;
-
-/// One field, a reference, and a tail of bytes.
-const CHUNK: TypeNo = 1;
-
 /// The page that objects are placed on.
 const PAGE: PageNo = 3;
-
-pub(crate) fn two_types(alloc: Global) -> Result<Catalog, Fail> {
-    let part = TypeMap::new(2, 2, Tail::Refs).ok_or("two fields")?;
-    let chunk = TypeMap::new(1, 1, Tail::Bytes).ok_or("one field")?;
-    let mut catalog = Catalog::new(alloc);
-    catalog.add(part)?;
-    catalog.add(chunk)?;
-    Ok(catalog)
-}
-
-/// Holds a space with one blank page.
-#[tactic(auto, using(crate::proofs::Homes::nothing_there))]
-pub(crate) fn one_page(alloc: Global) -> Result<Held, Fail>
-    ensures { IfOk result (λ held. (catalog : List Fields) → AreSound catalog BASE 16384 held) }
-{
-    let mut held = Held::new(alloc);
-    if held.admit_space(Space::new(alloc, 0)).is_err() {
-        return Err(Fail::from("no memory"));
-    }
-    let image = Image::blank(alloc, PAGE)?;
-    if !held.has_space() || held.image(PAGE).is_some() {
-        return Err(Fail::from("the page is there"));
-    }
-    if held.grow(image).is_err() {
-        return Err(Fail::from("no memory"));
-    }
-    Ok(held)
-}
 
 /// Whether an object of the page is held at the address.
 fn is_held(held: &Held, at: Addr) -> bool
@@ -204,8 +170,8 @@ fn first_difference(held: &mut Held, catalog: &Catalog, rows: &[Row]) -> Result<
     Ok(None)
 }
 
-/// Makes an object of few words, or answers None where it doesn't fit.
-fn make_object(
+/// Makes an object in what is held in its form.
+fn make_sound(
     held: &mut Held,
     catalog: &Catalog,
     ty: TypeNo,
@@ -215,26 +181,7 @@ fn make_object(
     requires { AreSound catalog.now BASE 16384 held.old }
     ensures { AreSound catalog.now BASE 16384 held.new }
 {
-    let Some(map) = catalog.get(ty) else {
-        return Err(Fail::from("no such type"));
-    };
-    if map.tail == Tail::Empty || map.count > 2 || tail > 400 || name == 0 || name > 1000 {
-        return Err(Fail::from("too many words"));
-    }
-    Ok(held.make(catalog, ty, tail, name))
-}
-
-fn make_chunk(held: &mut Held, catalog: &Catalog, tail: u32) -> Result<Option<Addr>, Fail>
-    requires { AreSound catalog.now BASE 16384 held.old }
-    ensures { AreSound catalog.now BASE 16384 held.new }
-{
-    let Some(map) = catalog.get(CHUNK) else {
-        return Err(Fail::from("no such type"));
-    };
-    if map.tail != Tail::Bytes || map.count > 2 || tail > 4000 {
-        return Err(Fail::from("too many words"));
-    }
-    Ok(held.make(catalog, CHUNK, tail, 1))
+    make(held, catalog, ty, tail, name)
 }
 
 /// Page 3.
@@ -257,10 +204,10 @@ fn make_four(held: &mut Held, catalog: &Catalog) -> Result<bool, Fail>
     requires { AreSound catalog.now BASE 16384 held.old }
     ensures { AreSound catalog.now BASE 16384 held.new }
 {
-    let first = make_object(held, catalog, PART, 2, 1)?;
-    let second = make_object(held, catalog, CHUNK, 11, 2)?;
-    let third = make_object(held, catalog, PART, 0, 3)?;
-    let fourth = make_chunk(held, catalog, 3072)?;
+    let first = make_sound(held, catalog, PART, 2, 1)?;
+    let second = make_sound(held, catalog, CHUNK, 11, 2)?;
+    let third = make_sound(held, catalog, PART, 0, 3)?;
+    let fourth = make_sound(held, catalog, CHUNK, 3072, 4)?;
     Ok(
         first == Some(FIRST)
             && second == Some(SECOND)

@@ -5,7 +5,7 @@ ghost use Rattle.std.specs.FinMap as map;
 ghost use Rattle.std.specs.FinSet as set;
 ghost use Rattle.pm3_page.specs.Next.{IsNext};
 ghost use Rattle.pm3_types.specs.Fields.{Fields};
-ghost use Rattle.pm3_types.specs.Layout.{blank_sheet, has_tail, size_by, is_address, page_in};
+ghost use Rattle.pm3_types.specs.Layout.{blank_sheet, has_tail, size_by};
 ghost use Rattle.pm3_access.specs.Access.{is_object_held, AreSound, HaveForm, ImageHasForm, value_held, value_written};
 ghost use Rattle.pm3_access.specs.Acts.{HaveGrown, IsReadStep, IsWriteStep, IsMakeStep, image_part, space_part};
 ghost use Rattle.pm3_access.specs.Making.{IsMade};
@@ -19,7 +19,7 @@ use crate::objects::read_place;
 use crate::places::{NoPlace, Place};
 use crate::spaces::Space;
 use crate::undone::Undone;
-use pm3_page::{Addr, BASE, Image, PageNo, Pages};
+use pm3_page::{Addr, BASE, Image, PageNo, Pages, page_of};
 use pm3_types::{Catalog, Memory, TypeNo};
 use std::alloc::Global;
 use std::marker::Model;
@@ -257,14 +257,4 @@ impl Held {
             },
         }
     }
-}
-
-/// The page of an address.
-#[tactic(auto, unfolding(pm3_types::specs::Layout::page_in), using(pm3_types::proofs::Addressing::above_base))]
-fn page_of(at: Addr) -> PageNo
-    requires word { is_address BASE at ≡ true }
-    requires low { page_in BASE at < 2 ^ 32 }
-    ensures { result ≡ page_in BASE at }
-{
-    ((at - BASE) / 4096) as PageNo
 }

@@ -31,15 +31,19 @@ mod rest;
 mod rest_space;
 
 // Laws of holdings as values.
+mod laws;
+
+// Tests, and the steps that they are made of.
 #[cfg(test)]
 mod access_tests;
-mod laws;
 #[cfg(test)]
 mod parting_tests;
 #[cfg(test)]
 mod root_tests;
 #[cfg(test)]
 mod tests;
+#[cfg(test)]
+mod trial_steps;
 
 pub use held::Held;
 pub use laws::{

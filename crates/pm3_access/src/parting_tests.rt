@@ -6,8 +6,9 @@ ghost use Rattle.pm3_access.specs.Access.{AreSound, is_object_held};
 ghost use Rattle.pm3_access.specs.Parting.{CanRejoin};
 
 use super::*;
-use crate::access_tests::{one_page, two_types};
-use crate::tests::{grow, holding, least_free, make, types};
+use crate::trial_steps::{
+    CHUNK, admit, holding, least_free, make, one_page, page_bytes, two_types,
+};
 use pm3_page::{Addr, BASE, Image, PageNo, PageSet, Pages};
 use pm3_types::Catalog;
 use std::alloc::Global;
@@ -21,29 +22,16 @@ fn expect(holds: bool) -> Result<(), Fail> {
     }
 }
 
-/// Holds page 4 alone, as it is blank.
-fn admit_page_4(held: &mut Held, alloc: Global) -> Result<(), Fail> {
-    let image = Image::blank(alloc, 4)?;
-    if held.image(image.page()).is_some() {
-        return Err(Fail::from("the page is held"));
-    }
-    match held.admit(image) {
-        Ok(()) => Ok(()),
-        Err(_) => Err(Fail::from("no memory")),
-    }
-}
-
 /// Makes an object without bytes, which lies there or nowhere.
 fn makes(held: &mut Held, alloc: Global, at: Option<Addr>) -> Result<(), Fail> {
-    let catalog = types(alloc)?;
-    expect(make(held, &catalog, 0, 1)? == at)
+    let catalog = two_types(alloc)?;
+    expect(make(held, &catalog, CHUNK, 0, 1)? == at)
 }
 
 /// A space with an object on page 3, and page 4 held alone.
 fn two_pages(alloc: Global) -> Result<Held, Fail> {
-    let mut held = holding(alloc, Space::new(alloc, 0))?;
-    admit_page_4(&mut held, alloc)?;
-    grow(&mut held, Image::blank(alloc, 3)?)?;
+    let mut held = one_page(alloc)?;
+    admit(&mut held, Image::blank(alloc, 4)?)?;
     makes(&mut held, alloc, Some(BASE + 4096 * 3 + 16))?;
     Ok(held)
 }
@@ -150,9 +138,7 @@ const OBJECT: Addr = BASE + 4096 * 4 + 16;
 fn page_4(alloc: Global, catalog: &Catalog) -> Result<Image, Fail>
     ensures { IfOk result (λ image. IsSound catalog.now BASE 16384 image) }
 {
-    let mut bytes = [0u8; 4096];
-    bytes[0] = 4;
-    bytes[4] = 6;
+    let mut bytes = page_bytes(4, 6);
     bytes[24] = 1;
     match Image::from_file(alloc, 4, 16384, catalog, &bytes) {
         Ok(image) => Ok(image),
@@ -166,12 +152,7 @@ fn space_and_page(alloc: Global, catalog: &Catalog) -> Result<Held, Fail>
 {
     let mut held = one_page(alloc)?;
     let image = page_4(alloc, catalog)?;
-    if held.image(image.page()).is_some() {
-        return Err(Fail::from("the page is held"));
-    }
-    if held.admit(image).is_err() {
-        return Err(Fail::from("no memory"));
-    }
+    admit(&mut held, image)?;
     Ok(held)
 }
 

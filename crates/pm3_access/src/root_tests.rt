@@ -2,6 +2,7 @@
 ghost use Rattle.std.specs.Prelude.{◌<◌};
 
 use super::*;
+use crate::trial_steps::{admit, page_bytes};
 use pm3_page::{Addr, BASE, Image};
 use pm3_types::Catalog;
 use std::alloc::Global;
@@ -9,23 +10,17 @@ use std::test::Fail;
 
 /// Page 2 as it stands in a file of a new store: all slots are nil.
 fn page_2(alloc: Global) -> Result<Image, Fail> {
-    let mut bytes = [0u8; 4096];
-    bytes[0] = 2;
-    bytes[4] = 18;
-    match Image::from_file(alloc, 2, 16384, &Catalog::new(alloc), &bytes) {
+    match Image::from_file(alloc, 2, 16384, &Catalog::new(alloc), &page_bytes(2, 18)) {
         Ok(image) => Ok(image),
         Err(_) => Err(Fail::from("the page is damaged")),
     }
 }
 
 /// Holds page 2 alone.
-#[tactic(auto, using(crate::proofs::Homes::nothing_there))]
 fn roots(alloc: Global) -> Result<Held, Fail> {
     let mut held = Held::new(alloc);
-    match held.admit(page_2(alloc)?) {
-        Ok(()) => Ok(held),
-        Err(_) => Err(Fail::from("no memory")),
-    }
+    admit(&mut held, page_2(alloc)?)?;
+    Ok(held)
 }
 
 fn write_root(held: &mut Held, slot: u32, at: Addr) -> Result<(), Fail>

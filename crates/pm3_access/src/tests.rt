@@ -1,96 +1,22 @@
 //! Calls that succeed with ample memory, and addresses and answers that were worked out by hand.
-ghost use Rattle.std.specs.Prelude.{◌≡◌};
-ghost use Rattle.pm3_types.specs.Layout.{blank_sheet};
-
 use super::*;
+use crate::trial_steps::{CHUNK, admit, grow, holding, least_free, make, one_page, two_types};
 use pm3_page::{Addr, BASE, Image, PageNo};
-use pm3_types::{Catalog, Tail, TypeMap, TypeNo};
 use std::alloc::Global;
 use std::test::Fail;
 
-/// One field, a reference, and a tail of bytes.
-const CHUNK: TypeNo = 8;
-
-/// Nine types of chunks.
-pub(crate) fn types(alloc: Global) -> Result<Catalog, Fail> {
-    let chunk = TypeMap::new(1, 1, Tail::Bytes).ok_or("one field")?;
-    let mut catalog = Catalog::new(alloc);
-    for _ in 0..9 {
-        catalog.add(chunk)?;
-    }
-    Ok(catalog)
-}
-
-/// Holds a space alone.
-#[tactic(auto, using(crate::proofs::Homes::nothing_there))]
-pub(crate) fn holding(alloc: Global, space: Space) -> Result<Held, Fail> {
-    let mut held = Held::new(alloc);
-    match held.admit_space(space) {
-        Ok(()) => Ok(held),
-        Err(_) => Err(Fail::from("no memory")),
-    }
-}
-
-pub(crate) fn grow(held: &mut Held, image: Image) -> Result<(), Fail>
-    requires { image.sheet ≡ blank_sheet }
-{
-    if !held.has_space() {
-        return Err(Fail::from("no space is held"));
-    }
-    if held.image(image.page()).is_some() {
-        return Err(Fail::from("the page is held"));
-    }
-    match held.grow(image) {
-        Ok(()) => Ok(()),
-        Err(_) => Err(Fail::from("no memory")),
-    }
-}
-
-pub(crate) fn make(
-    held: &mut Held,
-    catalog: &Catalog,
-    tail: u32,
-    name: u64,
-) -> Result<Option<Addr>, Fail> {
-    if u32::from(CHUNK) >= catalog.len() {
-        return Err(Fail::from("no such type"));
-    }
-    let Some(map) = catalog.get(CHUNK) else {
-        return Err(Fail::from("no such type"));
-    };
-    if map.tail != Tail::Bytes {
-        return Err(Fail::from("no tail of bytes"));
-    }
-    if map.count > 1 || tail > 4000 {
-        return Err(Fail::from("too many words"));
-    }
-    if name == 0 || name > 1000 {
-        return Err(Fail::from("no such name"));
-    }
-    Ok(held.make(catalog, CHUNK, tail, name))
-}
-
-pub(crate) fn least_free(held: &mut Held) -> Result<Option<PageNo>, Fail> {
-    if !held.has_space() {
-        return Err(Fail::from("no space is held"));
-    }
-    Ok(held.least_free())
-}
-
 /// What three makes answer, of objects without bytes, with 3072 bytes, and again.
 fn three_makes(held: &mut Held, alloc: Global) -> Result<[Option<Addr>; 3], Fail> {
-    let catalog = types(alloc)?;
-    let first = make(held, &catalog, 0, 1)?;
-    let second = make(held, &catalog, 3072, 2)?;
-    let third = make(held, &catalog, 3072, 3)?;
+    let catalog = two_types(alloc)?;
+    let first = make(held, &catalog, CHUNK, 0, 1)?;
+    let second = make(held, &catalog, CHUNK, 3072, 2)?;
+    let third = make(held, &catalog, CHUNK, 3072, 3)?;
     Ok([first, second, third])
 }
 
 /// The same, on page 3, which was drawn.
 fn three_makes_on_page_3(alloc: Global) -> Result<[Option<Addr>; 3], Fail> {
-    let mut held = holding(alloc, Space::new(alloc, 0))?;
-    grow(&mut held, Image::blank(alloc, 3)?)?;
-    three_makes(&mut held, alloc)
+    three_makes(&mut one_page(alloc)?, alloc)
 }
 
 /// The same, where no page was drawn.
@@ -156,20 +82,14 @@ fn pages_that_were_drawn_are_free_after_undo(rt: HostRuntime) -> Result<(), Fail
 /// Holds page 4 alone.
 fn page_4(alloc: Global) -> Result<Held, Fail> {
     let mut held = Held::new(alloc);
-    let image = Image::blank(alloc, 4)?;
-    if held.has_space() || held.image(image.page()).is_some() {
-        return Err(Fail::from("the page is held"));
-    }
-    if held.admit(image).is_err() {
-        return Err(Fail::from("no memory"));
-    }
+    admit(&mut held, Image::blank(alloc, 4)?)?;
     Ok(held)
 }
 
 #[test]
 fn a_page_is_given_back_as_it_was_taken(rt: HostRuntime) -> Result<(), Fail> {
     let held = page_4(rt.alloc())?;
-    assert!(rt; held.has(4) && !held.has(3));
+    assert!(rt; held.has(4) && !held.has(3) && !held.has_space());
     let Undone {
         pages,
         written: _,

@@ -1,5 +1,5 @@
 //! The addresses of the words of pages.
-ghost use Rattle.std.specs.Prelude.{◌≡◌, ◌+◌, ◌-◌, ◌*◌, ◌/◌, ◌<◌, ◌≤◌, ◌==◌, ◌&&◌, true, min};
+ghost use Rattle.std.specs.Prelude.{◌≡◌, ◌+◌, ◌-◌, ◌*◌, ◌/◌, ◌^◌, ◌<◌, ◌≤◌, ◌==◌, ◌&&◌, true, min};
 ghost use Rattle.pm3_types.specs.Layout.{address, is_address, page_in, word_in};
 
 use pm3_core::{BASE, PAGE_BYTES};
@@ -14,7 +14,7 @@ pub type Addr = u64;
 pub(crate) const MOST_PAGES: PageNo = 16384;
 
 /// The page of the roots.
-pub(crate) const ROOTS_PAGE: PageNo = 2;
+pub const ROOTS_PAGE: PageNo = 2;
 
 /// The address of a word of a page.
 pub(crate) fn address_of(page: PageNo, word: usize) -> Addr
@@ -33,7 +33,7 @@ pub(crate) fn is_word_of(page: PageNo, at: Addr) -> bool
 
 /// Whether it is the address of a word of some page.
 #[tactic(auto, unfolding(pm3_types::specs::Layout::is_address))]
-pub(crate) fn is_word(at: Addr) -> bool
+pub fn is_word(at: Addr) -> bool
     ensures { result ≡ is_address BASE at }
 {
     at >= BASE && (at - BASE) % 8 == 0
@@ -41,16 +41,26 @@ pub(crate) fn is_word(at: Addr) -> bool
 
 /// The page in which the address lies.
 #[tactic(auto, unfolding(pm3_types::specs::Layout::page_in), using(pm3_types::proofs::Addressing::above_base))]
-pub(crate) fn page_within(at: Addr) -> u64
+pub fn page_within(at: Addr) -> u64
     requires { is_address BASE at ≡ true }
-    ensures { result ≡ page_in BASE at }
+    ensures page { result ≡ page_in BASE at }
+    ensures low { result < 2 ^ 52 }
 {
     (at - BASE) / PAGE_BYTES
 }
 
+/// The page in which the address lies, where that number is one of a page.
+pub fn page_of(at: Addr) -> PageNo
+    requires word { is_address BASE at ≡ true }
+    requires low { page_in BASE at < 2 ^ 32 }
+    ensures { result ≡ page_in BASE at }
+{
+    page_within(at) as PageNo
+}
+
 /// The word of its page in which the address lies.
 #[tactic(auto, unfolding(pm3_types::specs::Layout::word_in), using(pm3_types::proofs::Addressing::above_base))]
-pub(crate) fn word_within(at: Addr) -> usize
+pub fn word_within(at: Addr) -> usize
     requires { is_address BASE at ≡ true }
     ensures word { result ≡ word_in BASE at }
     ensures low { result < 512 }

@@ -37,7 +37,7 @@ mod laws;
 #[cfg(test)]
 mod tests;
 
-pub use addresses::{Addr, PageNo};
+pub use addresses::{Addr, PageNo, ROOTS_PAGE, is_word, page_of, page_within, word_within};
 pub use images::Image;
 pub use laws::{images_stay_at_home, page_form_law};
 pub use marks::Marks;

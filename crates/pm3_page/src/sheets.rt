@@ -4,11 +4,8 @@ ghost use Rattle.std.specs.FinMap as map;
 ghost use Rattle.pm3_page.specs.PageMap.{Images};
 ghost use Rattle.pm3_page.specs.PageSheets.{sheet_in, sheets_of};
 
-use crate::addresses::PageNo;
+use crate::addresses::MOST_PAGES;
 use crate::pages::Pages;
-
-/// The number of pages that a store may have.
-const MOST_PAGES: PageNo = 16384;
 
 /// The sheets of images: of each page that of its image, and none where it has none.
 pub fn sheets_law()

@@ -1,5 +1,6 @@
 mod Alone
 mod CatalogFields
+mod EarlierImages
 mod Growing
 mod HeadBytes
 mod HeadLast

@@ -1,7 +1,8 @@
 //! Images, written to their pages, and page 0 behind them.
-ghost use Rattle.std.specs.Prelude.{◌≡◌, ◌*◌, ◌≤◌, length, OnOk, OnErr};
+ghost use Rattle.std.specs.Prelude.{◌≡◌, ◌+◌, ◌*◌, ◌≤◌, length, OnOk, OnErr};
+ghost use Rattle.std.specs.FinMap.{len};
 ghost use Rattle.pm3_disk.specs.Content.{IfTold};
-ghost use Rattle.pm3_disk.specs.Devices.{IsHonest, IsSynced, Leaves, Takes};
+ghost use Rattle.pm3_disk.specs.Devices.{IsHonest, IsSynced, Leaves, MakesAtMost, Takes};
 ghost use Rattle.pm3_types.specs.PageForm.{IsSound};
 ghost use Rattle.pm3_page.specs.PageBytes.{file_bytes};
 ghost use Rattle.pm3_pagefile.specs.PageBytes.{ChangesOnly, IsReplaced};
@@ -15,7 +16,8 @@ use pm3_page::{BASE, Image, Marks, PageNo, Pages};
 use pm3_types::Catalog;
 
 /// Writes each image at its page, then the marks at page 0, and syncs once. After a fault these pages may have any bytes,
-/// and nothing else has changed. The marks come last, so that they aren't written at all where an image wasn't.
+/// and nothing else has changed. The marks come last, so that they aren't written at all where an image wasn't. No page is
+/// written twice.
 pub fn write_images<D: Disk>(
     disk: &mut D,
     marks: Marks,
@@ -29,6 +31,7 @@ pub fn write_images<D: Disk>(
     ensures torn { OnErr result (Takes D.Disk disk.old disk.new (ChangesOnly (store_given marks catalog.now BASE images.now.images))) }
     ensures crash { Leaves D.Disk disk.old disk.new (ChangesOnly (store_given marks catalog.now BASE images.now.images)) }
     ensures order { HeadComesLast D.Disk disk.old disk.new (images_given catalog.now BASE images.now.images) }
+    ensures single { MakesAtMost D.Disk (len images.now.images + 2) disk.old disk.new }
     ensures cause { IsHonest D.Disk disk.old disk.new result }
 {
     let Ok(()) = write_pages(disk, marks.pages, catalog, images) else {
@@ -56,6 +59,7 @@ fn write_pages<D: Disk>(
     ensures ok { OnOk result (Takes D.Disk disk.old disk.new (IsReplaced (images_given catalog.now BASE images.now.images))) }
     ensures torn { OnErr result (Takes D.Disk disk.old disk.new (ChangesOnly (images_given catalog.now BASE images.now.images))) }
     ensures crash { Leaves D.Disk disk.old disk.new (ChangesOnly (images_given catalog.now BASE images.now.images)) }
+    ensures single { MakesAtMost D.Disk (len images.now.images) disk.old disk.new }
     ensures cause { IsHonest D.Disk disk.old disk.new result }
 {
     let mut start = 0;
@@ -83,6 +87,7 @@ fn write_image<D: Disk>(
     ensures ok { OnOk result (Takes D.Disk disk.old disk.new (IsReplaced (only page (file_bytes catalog.now BASE image.now)))) }
     ensures torn { OnErr result (Takes D.Disk disk.old disk.new (ChangesOnly (only page (file_bytes catalog.now BASE image.now)))) }
     ensures crash { Leaves D.Disk disk.old disk.new (ChangesOnly (only page (file_bytes catalog.now BASE image.now))) }
+    ensures single { MakesAtMost D.Disk 1 disk.old disk.new }
     ensures cause { IsHonest D.Disk disk.old disk.new result }
 {
     let mut bytes = [0; PAGE_SIZE];
@@ -96,6 +101,7 @@ fn write_page<D: Disk>(disk: &mut D, page: PageNo, bytes: &[u8; PAGE_SIZE]) -> R
     ensures ok { OnOk result (Takes D.Disk disk.old disk.new (IsReplaced (only page bytes.now))) }
     ensures torn { OnErr result (Takes D.Disk disk.old disk.new (ChangesOnly (only page bytes.now))) }
     ensures crash { Leaves D.Disk disk.old disk.new (ChangesOnly (only page bytes.now)) }
+    ensures single { MakesAtMost D.Disk 1 disk.old disk.new }
     ensures cause { IsHonest D.Disk disk.old disk.new result }
 {
     match disk.write_at(4096 * u64::from(page), bytes) {

@@ -239,6 +239,16 @@ moved_room_back p mine others mine_now others_now moved room =
     let used = moved.used in
     omega arith
 
+-- no image has come
+pub settled_fewer : (passes : Bool) (p : ℕ) (mine others mine_now others_now : PageMap) → StaysOrMoves passes p mine others mine_now others_now → map.len mine_now.images ≤ map.len mine.images
+settled_fewer true p mine others mine_now others_now step =
+    let same : map.len mine_now.images ≡ map.len mine.images = ap (λ (m : PageMap). map.len m.images) (step.stays refl).0 in
+    omega arith
+settled_fewer false p mine others mine_now others_now step =
+    let moved = step.moves refl in
+    let less : map.len mine_now.images + 1 ≡ map.len mine.images = ap (λ (m : Images). map.len m + 1) moved.gone ∙ len_gone mine.images p moved.image moved.there in
+    omega arith
+
 pub no_room_used : (images : Images) (spare : ℕ) → images ≡ map.empty → map.len images ≤ spare
 no_room_used images spare none =
     let nothing : map.len images ≡ 0 = ap map.len none ∙ len-empty nat_cmp PageImage in

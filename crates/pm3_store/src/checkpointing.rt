@@ -1,8 +1,9 @@
 //! The checkpoint: the records of the journal are carried into the page file.
-ghost use Rattle.std.specs.Prelude.{◌≡◌, ◌↔◌, ◌*◌, ◌<◌, ◌≤◌, ℕ, List, [], length, Ok, Some, None, OnOk, IsErrOf};
+ghost use Rattle.std.specs.Prelude.{◌≡◌, ◌↔◌, ◌+◌, ◌*◌, ◌<◌, ◌≤◌, ℕ, List, [], length, Ok, Some, None, OnOk, IsErrOf};
+ghost use Rattle.std.specs.FinMap.{len};
 ghost use Rattle.pm3_core.specs.declared.naming.TheConstants.{BASE};
 ghost use Rattle.pm3_disk.specs.Content.{Anything, IfTold};
-ghost use Rattle.pm3_disk.specs.Devices.{HasFailed, HasNotFailed, IsSynced, Leaves, Takes};
+ghost use Rattle.pm3_disk.specs.Devices.{HasFailed, HasNotFailed, IsSynced, Leaves, MakesAtMost, Takes};
 ghost use Rattle.pm3_types.specs.Graph.{Part};
 ghost use Rattle.pm3_page.specs.PageMap.{IsAtHome};
 ghost use Rattle.pm3_pagefile.specs.PageBytes.{ChangesOnly, IsReplaced};
@@ -66,6 +67,8 @@ pub fn checkpoint<D: Disk>(alloc: Global, opened: &mut Opened<D>) -> Result<(), 
         × Takes D.Disk opened.old.journal.disk opened.new.journal.disk Anything) }
     ensures emptied { OnOk result (IfTold (D.content opened.new.journal.disk) (λ bytes. records bytes ≡ Whole [])) }
     ensures synced { OnOk result (IsSynced D.Disk opened.old.pages → IsSynced D.Disk opened.new.pages × IsSynced D.Disk opened.new.journal.disk) }
+    ensures single { MakesAtMost D.Disk (len opened.old.images.images + 2) opened.old.pages opened.new.pages
+        × MakesAtMost D.Disk 2 opened.old.journal.disk opened.new.journal.disk }
     ensures pages_crash { (graph : Part) → Stands D.Disk (files_of opened.old) graph → PagesStand D.Disk (files_of opened.old) (files_of opened.new) graph }
     ensures journal_crash { (graph : Part) → Stands D.Disk (files_of opened.old) graph → JournalStands D.Disk (files_of opened.old) (files_of opened.new) graph }
     ensures stands { (graph : Part) → Stands D.Disk (files_of opened.old) graph → Stands D.Disk (files_of opened.new) graph }
@@ -123,6 +126,7 @@ fn write_records<D: Disk>(
         (ChangesOnly (recorded_given entries.now.summaries marks catalog.now BASE images.old.images)) }
     ensures crash { Leaves D.Disk pages.old pages.new
         (ChangesOnly (recorded_given entries.now.summaries marks catalog.now BASE images.old.images)) }
+    ensures single { MakesAtMost D.Disk (len images.old.images + 2) pages.old pages.new }
     ensures memory { IsErrOf result WriteFault.Memory → (pages.new ≡ pages.old) × (images.new ≡ images.old) }
     ensures cause { IsErrOf result WriteFault.PageFault → HasFailed D.Disk pages.old pages.new }
     ensures honest { OnOk result (HasNotFailed D.Disk pages.old pages.new) }

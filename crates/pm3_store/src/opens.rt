@@ -21,6 +21,7 @@ use pm3_journal::{Journal, Opened, RecoverFault, recover};
 use pm3_page::{Marks, Pages};
 use pm3_types::Catalog;
 use std::alloc::Global;
+use std::fmt;
 
 /// A store that wasn't opened: why, and its two devices.
 #[derive(Drop)]
@@ -28,6 +29,12 @@ pub struct OpenFault<D> {
     pub cause: OpenCause,
     pub pages: D,
     pub journal: D,
+}
+
+impl<D> fmt::Display for OpenFault<D> {
+    fn fmt<W: fmt::Write>(&self, f: &mut fmt::Formatter<W>) -> fmt::Result {
+        write!(f, "{}", self.cause)
+    }
 }
 
 /// Opens the store of a page file and a journal. Both are synced before they are read, and no byte of them is written.

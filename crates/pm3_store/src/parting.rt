@@ -16,6 +16,7 @@ pub(crate) fn set_apart(images: &mut Pages, entries: &Entries, others: &mut Page
     requires room { map.len images.old.images ≤ others.old.spare }
     ensures parted { ArePartedBy (has_page entries.now.summaries) images.old.images images.new.images others.new.images }
     ensures room { map.len others.new.images ≤ images.new.spare }
+    ensures fewer { map.len images.new.images ≤ map.len images.old.images }
 {
     let mut start = 0;
     while let Some(page) = images.next(start) {

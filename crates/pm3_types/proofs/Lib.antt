@@ -10,6 +10,7 @@ pub mod Starts
 pub mod OneObject
 pub mod Writes
 pub mod PlaceWrites
+pub mod ZeroedWords
 pub mod Placings
 pub mod FormedObjects
 pub mod PlacedForm

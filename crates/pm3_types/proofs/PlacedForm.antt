@@ -1,13 +1,14 @@
 -- A new object behind the last one leaves the form of the page.
-use Rattle.std.proofs.Common.{◌≡◌, ◌≢◌, ◌⊎◌, ◌<◌, ◌≤◌, ◌+◌, ◌-◌, ◌*◌, ◌/◌, ◌%◌, ◌^◌, ◌||◌, ◌++◌, ◌∙◌, inl, inr, ℕ, zero, suc, Bool, true, false, eqb, leb, List, length, get_or, set, take, drop, replicate, Some, slice_get, refl, sym, ap, subst, arith, length-set, length-append, length-drop, length-take-le, get_or-set_other, get_or-set_same, get_or-take}
+use Rattle.std.proofs.Common.{◌≡◌, ◌≢◌, ◌⊎◌, ◌<◌, ◌≤◌, ◌+◌, ◌-◌, ◌*◌, ◌/◌, ◌%◌, ◌^◌, ◌||◌, ◌∙◌, inl, inr, ℕ, zero, suc, Bool, true, false, eqb, leb, List, length, get_or, set, replicate, Some, slice_get, refl, sym, ap, subst, arith, length-set, get_or-set_other, get_or-set_same}
 use Rattle.std.proofs.lemmas.Bool.{cases_eq, and_from, cond-false, ne_eqb, eq-eqb, lt-ltb, le-leb, false≢true}
-use Rattle.std.proofs.lemmas.List.{length-replicate, get_or_append_left, get_or-append_right}
+use Rattle.std.proofs.lemmas.List.{length-replicate}
 use Rattle.std.proofs.Math.Nat.{zero-div}
 use Rattle.std.proofs.Math.Bool.{or-true}
 use Rattle.pm3_types.specs.Fields.{Fields}
 use Rattle.pm3_types.specs.Layout.{Sheet, PageImage, IsLaid, blank_sheet, is_start, type_in, tail_in, size_of, size_at, end_of, used_in, page_head, zeroed, placed}
 use Rattle.pm3_types.specs.PageForm.{HasForm, HasObjects, IsReferenceIn, IsTailBytes, is_head_of, is_name, is_padded, is_page_head, is_memory_reference, map_at, tail_at}
 use Rattle.pm3_types.proofs.Placings.{placed_laid}
+use Rattle.pm3_types.proofs.ZeroedWords.{length-zeroed, zeroed_before, zeroed_within}
 use Rattle.pm3_types.proofs.FormedObjects.{reference_within, bytes_within, blank_starts}
 
 get_or-replicate_default : {A : Type 0} → (n : ℕ) (x : A) (k : ℕ) → get_or (replicate n x) k x ≡ x
@@ -69,25 +70,6 @@ filled catalog refers page sheet (inr form) = record {
   padding = form.padding;
 }
 
-module _ (words : List ℕ) (from to : ℕ) (order : from ≤ to) (within : to ≤ length words) where
-  front_length : length (take from words ++ replicate (to - from) 0) ≡ to
-  front_length = omega (arith, length-append (take from words) (replicate (to - from) 0), length-take-le from words (omega arith), length-replicate {A = ℕ} (to - from) 0)
-
-  length-zeroed : length (zeroed words from to) ≡ length words
-  length-zeroed = omega (arith, length-append (take from words ++ replicate (to - from) 0) (drop to words), front_length, length-drop to words)
-
-  zeroed_before : (i : ℕ) → i < from → get_or (zeroed words from to) i 0 ≡ get_or words i 0
-  zeroed_before i low =
-      get_or_append_left (take from words ++ replicate (to - from) 0) (drop to words) 0 i (omega (arith, front_length))
-      ∙ get_or_append_left (take from words) (replicate (to - from) 0) 0 i (omega (arith, length-take-le from words (omega arith)))
-      ∙ get_or-take from words i 0 low
-
-  zeroed_inside : (i : ℕ) → from ≤ i → i < to → get_or (zeroed words from to) i 0 ≡ 0
-  zeroed_inside i low high =
-      get_or_append_left (take from words ++ replicate (to - from) 0) (drop to words) 0 i (omega (arith, front_length))
-      ∙ get_or-append_right (take from words) (replicate (to - from) 0) from i 0 (length-take-le from words (omega arith)) low
-      ∙ get_or-replicate_default {A = ℕ} (to - from) 0 (i - from)
-
 page_head_form : (page used : ℕ) → page ≢ 2 → page < 2 ^ 32 → 2 < used → used ≤ 512 → is_page_head page (page_head page used) ≡ true
 unfolding is_page_head page_head used_in
 page_head_form page used apart low more most =
@@ -130,7 +112,7 @@ module _ (catalog : List Fields) (refers : ℕ → Bool) (page : ℕ) (sheet : S
   pub inside : (i : ℕ) → end_of sheet + 2 ≤ i → i < end_of sheet + size → get_or now.words i 0 ≡ 0
   inside i from until =
       other_word i (λ e. omega arith) (λ e. omega arith) (λ e. omega arith)
-      ∙ zeroed_inside sheet.words (end_of sheet) (end_of sheet + size) (omega arith) (omega (arith, form.laid.words)) i (omega arith) until
+      ∙ zeroed_within sheet.words (end_of sheet) (end_of sheet + size) (omega arith) (omega (arith, form.laid.words)) i (omega arith) until
 
   pub at_name : get_or now.words (end_of sheet + 1) 0 ≡ name
   at_name = get_or-set_same with_head (end_of sheet + 1) name 0

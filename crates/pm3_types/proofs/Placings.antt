@@ -1,37 +1,13 @@
 -- A new object behind the last one.
-use Rattle.std.proofs.Common.{◌≡◌, ◌≢◌, ◌<◌, ◌≤◌, ◌+◌, ◌-◌, ◌^◌, ◌&&◌, ◌++◌, ◌∙◌, inl, inr, ℕ, Bool, true, false, cond, not, List, length, get_or, set, take, drop, replicate, Some, None, slice_get, sym, ap, subst, arith, length-set, length-append, length-drop, length-take-le, get_or-set_other, get_or-set_same, get_or-take, get_or-drop}
+use Rattle.std.proofs.Common.{◌≡◌, ◌≢◌, ◌<◌, ◌≤◌, ◌+◌, ◌-◌, ◌^◌, ◌&&◌, ◌∙◌, inl, inr, ℕ, Bool, true, false, cond, not, List, length, get_or, set, Some, None, slice_get, sym, ap, subst, arith, length-set, get_or-set_other, get_or-set_same}
 use Rattle.std.proofs.lemmas.Bool.{cases_Bool, cases_eq, cond-false, ne_eqb}
-use Rattle.std.proofs.lemmas.List.{length-replicate, get_or_append_left, get_or-append_right}
 use Rattle.pm3_types.specs.Fields.{Fields}
 use Rattle.pm3_types.specs.Record.{Record}
 use Rattle.pm3_types.specs.Layout.{Sheet, IsLaid, is_start, is_forwarded, type_in, size_of, size_at, end_by, end_of, used_in, page_head, zeroed, placed}
 use Rattle.pm3_types.specs.Shown.{Book, record_by, object_in}
 use Rattle.pm3_types.proofs.Starts.{outside}
 use Rattle.pm3_types.proofs.Writes.{record_alike}
-
-abbrev none : ℕ
-none = 0
-
-module _ (words : List ℕ) (from to : ℕ) (order : from ≤ to) (within : to ≤ length words) where
-  front_length : length (take from words ++ replicate (to - from) 0) ≡ to
-  front_length = omega (arith, length-append (take from words) (replicate (to - from) 0), length-take-le from words (omega arith), length-replicate (to - from) none)
-
-  length-zeroed : length (zeroed words from to) ≡ length words
-  length-zeroed = omega (arith, length-append (take from words ++ replicate (to - from) 0) (drop to words), front_length, length-drop to words)
-
-  zeroed_before : (i : ℕ) → i < from → get_or (zeroed words from to) i 0 ≡ get_or words i 0
-  zeroed_before i low =
-      get_or_append_left (take from words ++ replicate (to - from) 0) (drop to words) 0 i (omega (arith, front_length))
-      ∙ get_or_append_left (take from words) (replicate (to - from) 0) 0 i (omega (arith, length-take-le from words (omega arith)))
-      ∙ get_or-take from words i 0 low
-
-  zeroed_behind : (i : ℕ) → to ≤ i → get_or (zeroed words from to) i 0 ≡ get_or words i 0
-  zeroed_behind i high =
-      get_or-append_right (take from words ++ replicate (to - from) 0) (drop to words) to i 0 front_length high
-      ∙ get_or-drop to words (i - to) 0 ∙ ap (λ (k : ℕ). get_or words k 0) place
-    where
-      place : to + (i - to) ≡ i
-      place = omega arith
+use Rattle.pm3_types.proofs.ZeroedWords.{length-zeroed, zeroed_before, zeroed_behind}
 
 module _ (catalog : List Fields) (page : ℕ) (sheet : Sheet) (size head name : ℕ) (laid : IsLaid catalog sheet) (low : page < 2 ^ 32) (two : 2 ≤ size)
     (fits : end_of sheet + size ≤ 512) (sized : size_of catalog head ≡ size) where

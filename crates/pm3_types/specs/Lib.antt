@@ -22,3 +22,4 @@ pub mod Least
 pub mod PassSets
 pub mod PassMoves
 pub mod PassShown
+pub mod PassLaws

@@ -11,6 +11,7 @@ invariant-loop-page l = record {
   at_home : IsAtHome l.images.images;
   room : map.len l.images.images ≤ l.others.spare;
   others_room : map.len l.others.images ≤ l.images.spare;
+  fewer : map.len l.images.images ≤ map.len l.fn.images.images;
   low : l.start ≤ 16384;
 }
 
