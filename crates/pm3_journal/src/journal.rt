@@ -2,15 +2,16 @@
 ghost use Rattle.std.specs.Prelude.{◌≡◌, ◌≤◌, ◌<◌};
 ghost use Rattle.pm3_journal.specs.Journals.{Keeps};
 
+use crate::earlier::Earlier;
 use crate::entries::Entries;
 use crate::entry::Entry;
 use crate::file_pages::FilePages;
 use pm3_disk::Disk;
 use std::marker::Model;
-use std::snapshot::Snapshot;
 
 mod append;
 mod closing;
+mod crossing;
 mod images;
 pub(crate) mod recover;
 
@@ -52,7 +53,7 @@ pub struct Journal<D: Disk> {
     /// How many pages the next record may have without taking memory.
     room: Option<u32>,
     /// The device as it was at the moment from which on the records are kept, for clauses alone.
-    since: Snapshot<D>,
+    since: Earlier<D>,
     /// The append that failed and stopped the journal, for clauses alone.
     failed: Option<FailedAppend>,
     /// The last images in the records that were recovered, until they are taken.
@@ -65,7 +66,7 @@ pub struct Journal<D: Disk> {
 #[derive(Drop)]
 struct FailedAppend {
     seq: u64,
-    entry: Snapshot<Entry>,
+    entry: Earlier<Entry>,
 }
 
 impl<D: Disk> Model for Journal<D> {

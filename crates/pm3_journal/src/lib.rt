@@ -9,6 +9,9 @@
 mod faults;
 mod sizes;
 
+// What a value was at an earlier moment, for clauses alone.
+mod earlier;
+
 // A journal without records.
 mod creation;
 mod file_head;
@@ -45,6 +48,7 @@ mod recover_tests;
 mod tests;
 
 pub use creation::create;
+pub use earlier::Earlier;
 pub use entries::Entries;
 pub use entry::{Entry, Receipt};
 pub use faults::{AppendFault, JournalFault, PageFault, RecoverFault};

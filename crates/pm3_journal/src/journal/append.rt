@@ -7,6 +7,7 @@ ghost use Rattle.pm3_journal.specs.Gates.{AppendLeaves, entered};
 ghost use Rattle.pm3_journal.specs.JournalState.{grown, halted, HasRoom};
 ghost use Rattle.pm3_journal.specs.Steps.{HasMaybeOneMore, HasOneMore};
 
+use crate::earlier::Earlier;
 use crate::encoding::encode;
 use crate::entry::{Entry, Receipt};
 use crate::faults::AppendFault;
@@ -17,7 +18,6 @@ use crate::sizes::{FRONT_SIZE, GATE_SIZE, LIMIT, PART_SIZE};
 use crate::summary::summarize;
 use pm3_disk::{Disk, Memory};
 use std::mem;
-use std::snapshot::Snapshot;
 
 /// How many bytes the record of an entry has.
 fn size_of_record(seq: u64, entry: &Entry) -> u64
@@ -84,7 +84,7 @@ impl<D: Disk> Journal<D> {
         }
         encode(&mut self.buffer, seq, entry);
         let Ok(()) = append_body(&mut self.disk, self.end, self.is_closed, &self.buffer) else {
-            let entry = Snapshot::of(entry);
+            let entry = Earlier::of(entry);
             self.stopped = Some(seq);
             self.failed = Some(FailedAppend { seq, entry });
             return Err(AppendFault::JournalFault);

@@ -6,11 +6,11 @@ ghost use Rattle.pm3_disk.specs.Moments.{After};
 ghost use Rattle.pm3_journal.specs.JournalState.{emptied, torn};
 ghost use Rattle.pm3_journal.specs.Steps.{HasAllOrNone, HasNone};
 
+use crate::earlier::Earlier;
 use crate::faults::JournalFault;
 use crate::journal::Journal;
 use crate::sizes::HEAD_SIZE;
 use pm3_disk::{Disk, write_through};
-use std::snapshot::Snapshot;
 
 impl<D: Disk> Journal<D> {
     /// Closes the first gate, so that the journal has no entries. The number that is due stays. It takes no memory. After
@@ -41,7 +41,7 @@ impl<D: Disk> Journal<D> {
         self.is_closed = true;
         self.is_torn = false;
         self.failed = None;
-        self.since = Snapshot::of(&self.disk);
+        self.since = Earlier::of(&self.disk);
         Ok(())
     }
 

@@ -11,12 +11,12 @@ ghost use Rattle.pm3_journal.specs.Recovered.{HasRecords};
 ghost use Rattle.pm3_journal.specs.Summaries.{has_page};
 
 use crate::device_reading::{Findings, find};
+use crate::earlier::Earlier;
 use crate::faults::RecoverFault;
 use crate::journal::Journal;
 use crate::list_reading::Scanned;
 use pm3_disk::Disk;
 use std::alloc::Global;
-use std::snapshot::Snapshot;
 
 /// The journal of a device. It syncs the device first, so that no earlier write is pending, reads the records of its list,
 /// and nothing behind it. A journal without records has the number 1 due.
@@ -56,7 +56,7 @@ pub fn recover<D: Disk>(alloc: Global, disk: D) -> Result<Journal<D>, (RecoverFa
         end,
         due: _,
     } = list;
-    let since = Snapshot::of(&disk);
+    let since = Earlier::of(&disk);
     Ok(Journal {
         disk,
         pages,

@@ -22,14 +22,14 @@ returns-in_default-clause-crash g c =
 pub invariant_of-self-2 : goal.invariant_of-self-2
 invariant_of-self-2 g c = (
   keeps_emptied g.D.Disk _ c.self.invariant.0 (rw (← c.self.view_is) at c.requires.some) (λ bytes told. g.met.D.Disk.leaves_what_it_reads c.self.inside.disk bytes told)
-      _ c.in-Ok.ensures.written c.in-Ok.ensures.settled (ap g.D.Disk.moment c.of.ensures) c.clear.ensures.none,
+      _ c.in-Ok.ensures.written c.in-Ok.ensures.settled (ap g.D.Disk.moment c.of-self-inside.ensures) c.clear.ensures.none,
   space_cleared c.self.inside.room _ _ _ _ _ _ c.clear.ensures.none c.clear.ensures.slots c.self.invariant.1,
   c.self.invariant.2,
   c.clear.ensures.pages ∙ c.self.invariant.3,
 )
 
 pub returns-clause-emptied : goal.returns-clause-emptied
-returns-clause-emptied g c = rw (← c.self.view_is) (emptied_by c.write_through.new.disk c.self.invariant.0 c.clear.ensures.none (ap g.D.Disk.moment c.of.ensures))
+returns-clause-emptied g c = rw (← c.self.view_is) (emptied_by c.write_through.new.disk c.self.invariant.0 c.clear.ensures.none (ap g.D.Disk.moment c.of-self-inside.ensures))
 
 pub returns-clause-none : goal.returns-clause-none
 returns-clause-none g c =
