@@ -29,7 +29,7 @@ use Rattle.pm3_copy.specs.Spreading.{before_of, AreTurned}
 use Rattle.pm3_copy.proofs.BothMoves.{among}
 use Rattle.pm3_copy.proofs.Carried as images_of
 use Rattle.pm3_copy.proofs.Carried.{AreParted, IsHere, joined_has, joined_from, joined_none, starts_same, updated_here, updated_from, updated_pages}
-use Rattle.pm3_copy.proofs.Destinations.{settled_on, first_goes, second_goes}
+use Rattle.pm3_copy.proofs.Destinations.{settled_on, of_take, of_drop, first_goes, second_goes}
 use Rattle.pm3_copy.proofs.PlanParts.{same_pages, sizes_within}
 use Rattle.pm3_copy.proofs.Stayers.{kept_apart}
 use Rattle.pm3_copy.proofs.RenamedCopies.{renamed_copy, same_itself}
@@ -308,6 +308,7 @@ module _ (catalog : List Fields) (base : ℕ) (above : 0 < base) (space written 
       moves = paired promoted news ++ paired kept places;
       are = record { promoted = promoted; kept = kept; of_promoted = promoted_movers; of_kept = kept_movers; are = λ i. paired promoted (first i) ++ paired kept (second i) };
       addresses = are_addresses;
+      goes = goes;
       carried = are_carried;
       only = only;
       persistent = persistent;
@@ -322,21 +323,32 @@ module _ (catalog : List Fields) (base : ℕ) (above : 0 < base) (space written 
         big : (list : List ℕ) → ((a : ℕ) → Contains list a → is_object_at base (sheets_of space) a ≡ true) → All (λ s. 2 ≤ s) (sizes catalog base (sheets_of space) list)
         big list there k d low = (sizes_within catalog base space space_sound list (λ a is. object_there catalog base 16384 space a space_sound (there a is)) k d low).0
 
+        -- the objects of the first list go to the first pages, and those of the second to the others
+        first_on : (a : ℕ) → Contains promoted a → Contains (take wanted fresh) (page_in base (to a))
+        first_on a c =
+            let there = first_goes promoted news kept places long others_long promoted_movers.rising kept_movers.rising apart a c in
+            settled_on base (sizes catalog base (sheets_of space) promoted) (take wanted fresh) (to a) (big promoted (λ b is. member_there b (inl is))) (subst (λ xs. Contains xs (to a)) first there)
+
+        second_on : (a : ℕ) → Contains kept a → Contains (drop wanted fresh) (page_in base (to a))
+        second_on a c =
+            let there = second_goes promoted news kept places long others_long promoted_movers.rising kept_movers.rising apart a c in
+            settled_on base (sizes catalog base (sheets_of space) kept) (drop wanted fresh) (to a) (big kept (λ b is. member_there b (inr is))) (subst (λ xs. Contains xs (to a)) second there)
+
+        goes : (a : ℕ) → (to a ≡ a) ⊎ Contains fresh (page_in base (to a))
+        goes a = elim (among promoted a) [
+          | inl c ↦ inr (of_take wanted fresh (page_in base (to a)) (first_on a c))
+          | inr none ↦ elim (among kept a) [ inl c ↦ inr (of_drop wanted fresh (page_in base (to a)) (second_on a c)) | inr neither ↦ inl (moved.others a none neither) ]
+        ]
+
         persistent : (a : ℕ) → Promoted catalog base before a → map_of.contains_key (sheets_of new_written) (page_in base (to a)) ≡ true
         persistent a is = elim (cases_Bool (set.contains pinned (page_in base a))) [
           | inl pin ↦ ap (λ b. map_of.contains_key (sheets_of new_written) (page_in base b)) (stays_pinned a pin) ∙ (written_pages (page_in base a)).1 (inr (inl (pin, (a, refl, is))))
-          | inr free ↦ (
-              let goes = first_goes promoted news kept places long others_long promoted_movers.rising kept_movers.rising apart a (promoted_movers.all a (is, free)) in
-              (written_pages (page_in base (to a))).1 (inr (inr (settled_on base (sizes catalog base (sheets_of space) promoted) (take wanted fresh) (to a)
-              (big promoted (λ b c. member_there b (inl c))) (subst (λ xs. Contains xs (to a)) first goes)))))
+          | inr free ↦ (written_pages (page_in base (to a))).1 (inr (inr (first_on a (promoted_movers.all a (is, free)))))
         ]
 
         volatile : (a : ℕ) → Kept catalog base before a → map_of.contains_key (sheets_of new_space) (page_in base (to a)) ≡ true
         volatile a is = elim (cases_Bool (set.contains pinned (page_in base a))) [
           | inl pin ↦ ap (λ b. map_of.contains_key (sheets_of new_space) (page_in base b)) (stays_pinned a pin)
               ∙ (space_pages (page_in base a)).1 (inl (pin, λ turns_. kept_apart catalog base before a is (next turns_.1.0 a turns_.1.2 (kept_there catalog base before a is, inr (ap (set.contains pinned) turns_.1.1 ∙ pin, sym turns_.1.1)))))
-          | inr free ↦ (
-              let goes = second_goes promoted news kept places long others_long promoted_movers.rising kept_movers.rising apart a (kept_movers.all a (is, free)) in
-              (space_pages (page_in base (to a))).1 (inr (settled_on base (sizes catalog base (sheets_of space) kept) (drop wanted fresh) (to a)
-              (big kept (λ b c. member_there b (inr c))) (subst (λ xs. Contains xs (to a)) second goes))))
+          | inr free ↦ (space_pages (page_in base (to a))).1 (inr (second_on a (kept_movers.all a (is, free))))
         ]

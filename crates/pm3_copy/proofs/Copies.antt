@@ -1,8 +1,8 @@
 -- A copy behind the last object of a page.
-use Rattle.std.proofs.Common.{◌≡◌, ◌≢◌, ◌<◌, ◌≤◌, ◌+◌, ◌-◌, ◌*◌, ◌^◌, ◌==◌, ◌||◌, ◌∙◌, ◌⊎◌, inl, inr, ℕ, Bool, true, false, eqb, ltb, List, length, get_or, Some, slice_get, refl, sym, ap, subst, arith, length-set, get_or-set_same, get_or-set_other}
-use Rattle.std.proofs.lemmas.Bool.{cases_eq, cases_lt, and_parts, ltb-true, eqb-true, ne_eqb, cond-false, false≢true}
+use Rattle.std.proofs.Common.{◌≡◌, ◌≢◌, ◌<◌, ◌≤◌, ◌+◌, ◌-◌, ◌*◌, ◌^◌, ◌==◌, ◌∙◌, ◌⊎◌, inl, inr, ℕ, true, false, ltb, List, length, get_or, Some, slice_get, refl, sym, ap, subst, arith, length-set, get_or-set_same, get_or-set_other}
+use Rattle.std.proofs.lemmas.Bool.{cases_eq, cases_lt, and_parts, ltb-true, ne_eqb, cond-false, false≢true}
 use Rattle.pm3_types.specs.Fields.{Fields}
-use Rattle.pm3_types.specs.Layout.{Sheet, PageImage, is_start, type_in, tail_in, head_of, has_tail_by, size_by, size_of, size_at, end_of, end_by, used_in, page_head, placed_on}
+use Rattle.pm3_types.specs.Layout.{Sheet, PageImage, is_start, type_in, tail_in, head_of, size_by, size_of, size_at, end_of, end_by, used_in, page_head, placed_on}
 use Rattle.pm3_types.specs.PageForm.{HasObjects, IsSound, IsReferenceIn, IsTailBytes, is_head_of, is_padded, is_memory_reference, map_at, tail_at}
 use Rattle.pm3_page.specs.Overwriting.{copied_on, overwritten, words_at}
 use Rattle.pm3_copy.specs.Copies.{IsCopied}
@@ -30,15 +30,6 @@ low_of fields h is = ltb-true h (2 ^ 48) (and_parts (ltb h (2 ^ 48)) _ is).0
 pub head_is : (fields : Fields) (h : ℕ) → is_head_of fields h ≡ true → head_of (type_in h) (tail_in h) ≡ h
 unfolding head_of type_in tail_in
 head_is fields h is = (let low = low_of fields h is in omega arith)
-
--- an object without a tail has the length 0 of one
-tail_zero : (b : Bool) (n : ℕ) → (b || eqb n 0) ≡ true → b ≡ false → n ≡ 0
-tail_zero true n is none = absurd (false≢true (sym none))
-tail_zero false n is none = eqb-true n 0 is
-
-pub no_tail : (fields : Fields) (h : ℕ) → is_head_of fields h ≡ true → has_tail_by fields.tail ≡ false → tail_in h ≡ 0
-unfolding is_head_of
-no_tail fields h is none = tail_zero (has_tail_by fields.tail) (tail_in h) (and_parts (ltb h (2 ^ 48)) _ is).1 none
 
 used_of : (page used : ℕ) → page < 2 ^ 32 → used_in (page_head page used) ≡ used
 unfolding used_in page_head

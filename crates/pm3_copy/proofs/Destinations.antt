@@ -1,9 +1,9 @@
 -- On which pages the new addresses of objects lie.
-use Rattle.std.proofs.Common.{◌≡◌, ◌<◌, ◌≤◌, ◌+◌, ◌∙◌, ◌⊎◌, inl, inr, ℕ, zero, suc, nat_le, List, [], ◌∷◌, ◌++◌, length, get_or, sym, ap, subst, arith}
+use Rattle.std.proofs.Common.{◌≡◌, ◌<◌, ◌≤◌, ◌+◌, ◌∙◌, ◌⊎◌, inl, inr, ℕ, zero, suc, nat_le, List, [], ◌∷◌, ◌++◌, take, drop, length, get_or, sym, ap, subst, arith}
 use Rattle.std.specs.List.{All, Contains}
 use Rattle.std.proofs.lemmas.Bool.{cases_Bool, cond-true, cond-false, leb-true}
-use Rattle.std.proofs.lemmas.List.{get_or_default}
-use Rattle.std.proofs.lemmas.List.Elements.{Contains-get_or}
+use Rattle.std.proofs.lemmas.List.{get_or_default, take-append-drop}
+use Rattle.std.proofs.lemmas.List.Elements.{Contains-get_or, Contains-append_left, Contains-append_right}
 use Rattle.pm3_types.specs.Layout.{address, page_in}
 use Rattle.pm3_types.specs.PassMoves.{IsRising, settle, settled, paired, moved_by}
 use Rattle.pm3_types.proofs.Addressing.{page_in-address}
@@ -62,6 +62,13 @@ settle_on base (s ∷ ss) page end (p ∷ ps) b all there =
 -- those on these pages alone lie on these pages
 pub settled_on : (base : ℕ) (sizes pages : List ℕ) (b : ℕ) → All (λ s. 2 ≤ s) sizes → Contains (settled base sizes pages) b → Contains pages (page_in base b)
 settled_on base sizes pages b all there = elim (settle_on base sizes 0 512 pages b all there) [ inl here ↦ absurd (omega (arith, here.1)) | inr on ↦ on ]
+
+-- the first members of a list are on it, and so are the others
+pub of_take : (n : ℕ) (xs : List ℕ) (b : ℕ) → Contains (take n xs) b → Contains xs b
+of_take n xs b there = subst (λ ys. Contains ys b) (take-append-drop n xs) (Contains-append_left (take n xs) (drop n xs) b there)
+
+pub of_drop : (n : ℕ) (xs : List ℕ) (b : ℕ) → Contains (drop n xs) b → Contains xs b
+of_drop n xs b there = subst (λ ys. Contains ys b) (take-append-drop n xs) (Contains-append_right (take n xs) (drop n xs) b there)
 
 module _ (olds news others places : List ℕ) (long : length news ≡ length olds) (others_long : length places ≡ length others) (rising : IsRising olds) (others_rise : IsRising others)
     (apart : (a : ℕ) → Contains olds a → Contains others a → ⊥) where

@@ -1,6 +1,6 @@
 -- Pages get blocks in an index, and the addresses of a list get numbers.
 use Rattle.std.proofs.Common.{◌≡◌, ◌≢◌, ◌<◌, ◌≤◌, ◌+◌, ◌*◌, ◌/◌, ◌⊎◌, inl, inr, ◌∙◌, ℕ, true, List, length, get_or, set, replicate, refl, sym, ap, subst, arith, length-set, get_or-set_same, get_or-set_other}
-use Rattle.std.specs.List.{All, Contains}
+use Rattle.std.specs.List.{Contains}
 use Rattle.std.proofs.lemmas.Bool.{cases_eq, cases_lt}
 use Rattle.std.proofs.lemmas.List.{get_or_default, get_or_past, get_or-replicate, length-replicate}
 use Rattle.std.proofs.lemmas.List.Elements.{Contains-get_or}
@@ -132,10 +132,6 @@ module _ (base : ℕ) (blocks : List ℕ) (first : ℕ) (list old : List ℕ) (w
       below.others (slot_of base blocks a) (λ k less e. never (subst (Contains list)
       (sym (slots_apart base blocks words are a (get_or list k 0) address (on (get_or list k 0) (Contains-get_or list k 0 (omega arith))).0 has (sym e)))
       (Contains-get_or list k 0 (omega arith))))
-
--- a list within another on pages with blocks
-pub on_blocks_of : (base : ℕ) (blocks : List ℕ) (words : ℕ) (all list : List ℕ) → AreOnBlocks base blocks words all → All (Contains all) list → AreOnBlocks base blocks words list
-on_blocks_of base blocks words all list on within a (k, low, is) = on a (subst (Contains all) is (within k a low))
 
 -- the number of a member of a list that is numbered
 pub numbered_at : (base : ℕ) (blocks numbers : List ℕ) (first : ℕ) (list : List ℕ) (w : ℕ) → AreNumbered base blocks numbers first list → Contains list w

@@ -1,5 +1,5 @@
 -- The lists of a plan.
-use Rattle.std.proofs.Common.{◌≡◌, ◌<◌, ◌≤◌, ◌+◌, inl, inr, ◌∙◌, ℕ, true, false, List, [], length, get_or, Option, None, Some, is_some, refl, ap, arith}
+use Rattle.std.proofs.Common.{◌≡◌, ◌<◌, ◌≤◌, ◌+◌, ◌↔◌, inl, inr, ◌∙◌, ℕ, true, false, List, [], length, get_or, Option, None, Some, is_some, refl, ap, arith}
 use Rattle.std.specs.Ordering.{nat_cmp}
 use Rattle.std.specs.FinSet as set
 use Rattle.std.specs.List.{All, Contains}
@@ -13,6 +13,7 @@ use Rattle.pm3_page.specs.PageMap.{Images}
 use Rattle.pm3_page.specs.PageSheets.{AreSoundPages, sheet_in, sheets_of}
 use Rattle.pm3_page.proofs.SheetsOf.{get-sheets_of}
 use Rattle.std.specs.FinMap as map
+use Rattle.pm3_copy.specs.Blocks.{AreOnSome}
 use Rattle.pm3_copy.specs.Finds.{Finds, AreFound}
 use Rattle.pm3_copy.specs.Spreading.{AreOnPages, Picks, before_of}
 use Rattle.pm3_copy.specs.Whole.{IsObjectOf}
@@ -81,6 +82,14 @@ module _ (catalog : List Fields) (base : ℕ) (images written : Images) (pinned 
           by : Live catalog base (before_of images written pinned) a → Kept catalog base (before_of images written pinned) a
           by (inl promoted) = absurd (others (movers.all a (promoted, free)))
           by (inr kept) = kept
+
+  -- the members of a list of movers lie on pages of the space that are not pinned
+  pub movers_on : (InSet : ℕ → Type 0) (list : List ℕ) (freed : set.FinSet nat_cmp) → ((a : ℕ) → InSet a → IsObjectOf base images a) → AreMovers base (before_of images written pinned) InSet list
+      → ((p : ℕ) → (set.contains freed p ≡ true) ↔ ((map.contains_key images p ≡ true) × (set.contains pinned p ≡ false))) → AreOnSome base freed list
+  movers_on InSet list freed object movers are a is =
+      let member = movers.only a is in
+      let there = object a member.0 in
+      (address_of base there.image a there.begins, (are (page_in base a)).1 (ap is_some there.on, member.1))
 
   pub promoted_objects : (list : List ℕ) → AreMovers base (before_of images written pinned) (Promoted catalog base (before_of images written pinned)) list → (a : ℕ) → Contains list a → IsObjectOf base images a
   promoted_objects list movers a is = promoted_object a (movers.only a is).0

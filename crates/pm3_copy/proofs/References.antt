@@ -22,30 +22,39 @@ module _ (catalog : List Fields) (sheet : Sheet) (s : ℕ) where
   pub places_none : (found : Finds) → Adds (RefersBelow catalog sheet s 0) found found
   places_none found = adds_none (RefersBelow catalog sheet s 0) found (λ b there r. omega (arith, r.low))
 
-  pub places_more : (o : Option Fields) (len n : ℕ) (old now new : Finds) → o ≡ map_at catalog sheet s → len ≡ tail_at sheet s → Adds (RefersBelow catalog sheet s n) old now
-      → Adds (λ b. IsReferenceIn o len n × (slice_index sheet.words (s + 2 + n) ≡ b)) now new → Adds (RefersBelow catalog sheet s (n + 1)) old new
-  places_more o len n old now new map_is len_is first second =
-      adds_then (RefersBelow catalog sheet s n) (λ b. IsReferenceIn o len n × (slice_index sheet.words (s + 2 + n) ≡ b)) (RefersBelow catalog sheet s (n + 1)) old now new first second
-      (λ b there r. parts b r) (λ b r. record { place = r.place; low = omega (arith, r.low); reference = r.reference; is = r.is })
-      (λ b p. record { place = n; low = omega arith; reference = to p.0; is = p.1 })
+module _ (catalog : List Fields) (sheet : Sheet) (s : ℕ) (o : Option Fields) (len : ℕ) (map_is : o ≡ map_at catalog sheet s) (len_is : len ≡ tail_at sheet s) where
+  to : (k : ℕ) → IsReferenceIn o len k → IsReferenceIn (map_at catalog sheet s) (tail_at sheet s) k
+  to k is = (let P : ℕ → Type 0 = λ l. IsReferenceIn (map_at catalog sheet s) l k in subst P len_is (let Q : Option Fields → Type 0 = λ m. IsReferenceIn m len k in subst Q map_is is))
+
+  back : (k : ℕ) → IsReferenceIn (map_at catalog sheet s) (tail_at sheet s) k → IsReferenceIn o len k
+  back k is = (let Q : Option Fields → Type 0 = λ m. IsReferenceIn m len k in subst Q (sym map_is) (let P : ℕ → Type 0 = λ l. IsReferenceIn (map_at catalog sheet s) l k in subst P (sym len_is) is))
+
+  -- the next reference of the object
+  pub places_more : (n place : ℕ) (old now new : Finds) → n ≤ place → IsReferenceIn o len place → ((k : ℕ) → n ≤ k → k < place → IsReferenceIn o len k → ⊥)
+      → Adds (RefersBelow catalog sheet s n) old now → Adds (λ b. slice_index sheet.words (s + 2 + place) ≡ b) now new → Adds (RefersBelow catalog sheet s (place + 1)) old new
+  places_more n place old now new from is between first second =
+      adds_then (RefersBelow catalog sheet s n) (λ b. slice_index sheet.words (s + 2 + place) ≡ b) (RefersBelow catalog sheet s (place + 1)) old now new first second
+      (λ b there r. parts b r) (λ b r. record { place = r.place; low = omega (arith, r.low, from); reference = r.reference; is = r.is })
+      (λ b e. record { place = place; low = omega arith; reference = to place is; is = e })
     where
-      to : IsReferenceIn o len n → IsReferenceIn (map_at catalog sheet s) (tail_at sheet s) n
-      to is = (let P : ℕ → Type 0 = λ l. IsReferenceIn (map_at catalog sheet s) l n in subst P len_is (let Q : Option Fields → Type 0 = λ m. IsReferenceIn m len n in subst Q map_is is))
-
-      back : IsReferenceIn (map_at catalog sheet s) (tail_at sheet s) n → IsReferenceIn o len n
-      back is = (let Q : Option Fields → Type 0 = λ m. IsReferenceIn m len n in subst Q (sym map_is) (let P : ℕ → Type 0 = λ l. IsReferenceIn (map_at catalog sheet s) l n in subst P (sym len_is) is))
-
-      parts : (b : ℕ) → RefersBelow catalog sheet s (n + 1) b → RefersBelow catalog sheet s n b ⊎ (IsReferenceIn o len n × (slice_index sheet.words (s + 2 + n) ≡ b))
-      parts b r = elim (cases_eq r.place n) [
-        | inl same ↦ inr (back (let P : ℕ → Type 0 = λ k. IsReferenceIn (map_at catalog sheet s) (tail_at sheet s) k in subst P same r.reference), ap (λ k. slice_index sheet.words (s + 2 + k)) (sym same) ∙ r.is)
-        | inr apart ↦ inl (record { place = r.place; low = omega (arith, r.low); reference = r.reference; is = r.is })
+      parts : (b : ℕ) → RefersBelow catalog sheet s (place + 1) b → RefersBelow catalog sheet s n b ⊎ (slice_index sheet.words (s + 2 + place) ≡ b)
+      parts b r = elim (cases_lt r.place n) [
+        | inl before ↦ inl (record { place = r.place; low = before; reference = r.reference; is = r.is })
+        | inr behind ↦ elim (cases_eq r.place place) [
+          | inl same ↦ inr (ap (λ k. slice_index sheet.words (s + 2 + k)) (sym same) ∙ r.is)
+          | inr apart ↦ absurd (between r.place behind (omega (arith, r.low)) (back r.place r.reference))
+        ]
       ]
 
-  pub places_all : (n : ℕ) (old new : Finds) → ((k : ℕ) → IsReferenceIn (map_at catalog sheet s) (tail_at sheet s) k → k < n) → Adds (RefersBelow catalog sheet s n) old new → Adds (RefersIn catalog sheet s) old new
-  places_all n old new every adds =
+  -- there is none behind it
+  pub places_all : (n : ℕ) (old new : Finds) → ((k : ℕ) → n ≤ k → IsReferenceIn o len k → ⊥) → Adds (RefersBelow catalog sheet s n) old new → Adds (RefersIn catalog sheet s) old new
+  places_all n old new past adds =
       adds_as (RefersBelow catalog sheet s n) (RefersIn catalog sheet s) old new adds
-      (λ b there r. record { place = r.place; low = every r.place r.reference; reference = r.reference; is = r.is })
+      (λ b there r. record { place = r.place; low = low r.place r.reference; reference = r.reference; is = r.is })
       (λ b r. record { place = r.place; reference = r.reference; is = r.is })
+    where
+      low : (k : ℕ) → IsReferenceIn (map_at catalog sheet s) (tail_at sheet s) k → k < n
+      low k item = elim (cases_lt k n) [ inl before ↦ before | inr behind ↦ absurd (past k behind (back k item)) ]
 
 -- one of the objects of an image up to an address leads there
 pub record LeadsUpTo (base : ℕ) (image : PageImage) (Leads : ℕ → ℕ → Type 0) (at b : ℕ) : Type 0 where

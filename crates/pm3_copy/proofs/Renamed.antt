@@ -1,6 +1,6 @@
 -- Words that are renamed one after another.
-use Rattle.std.proofs.Common.{◌≡◌, ◌<◌, ◌+◌, ◌∙◌, ◌⊎◌, inl, inr, ℕ, List, length, get_or, set, Option, refl, sym, ap, subst, arith, length-set, get_or-set_same, get_or-set_other}
-use Rattle.std.proofs.lemmas.Bool.{cases_eq}
+use Rattle.std.proofs.Common.{◌≡◌, ◌<◌, ◌≤◌, ◌+◌, ◌∙◌, ◌⊎◌, inl, inr, ℕ, List, length, get_or, set, Option, refl, sym, ap, subst, arith, length-set, get_or-set_same, get_or-set_other}
+use Rattle.std.proofs.lemmas.Bool.{cases_eq, cases_lt}
 use Rattle.pm3_types.specs.Fields.{Fields}
 use Rattle.pm3_types.specs.Layout.{Sheet, with_word}
 use Rattle.pm3_types.specs.PageForm.{IsReferenceIn, map_at, tail_at}
@@ -39,23 +39,26 @@ module _ (o : Option Fields) (len s : ℕ) (to : ℕ → ℕ) where
   pub places_none : (sheet : Sheet) → IsRenamed (IsPlaceBelow o len s 0) to sheet sheet
   places_none sheet = renamed_none (IsPlaceBelow o len s 0) to sheet (λ i p. omega (arith, p.low))
 
-  pub places_more : (n : ℕ) (sheet mid now : Sheet) → IsRenamed (IsPlaceBelow o len s n) to sheet mid → IsRenamed (λ i. IsReferenceIn o len n × (i ≡ s + 2 + n)) to mid now
-      → IsRenamed (IsPlaceBelow o len s (n + 1)) to sheet now
-  places_more n sheet mid now first second =
-      renamed_then (IsPlaceBelow o len s n) (λ i. IsReferenceIn o len n × (i ≡ s + 2 + n)) (IsPlaceBelow o len s (n + 1)) to sheet mid now first second
-      (λ i p q. omega (arith, p.low, p.is, q.1)) parts
-      (λ i p. record { place = p.place; low = omega (arith, p.low); reference = p.reference; is = p.is })
-      (λ i q. record { place = n; low = omega arith; reference = q.0; is = q.1 })
+  pub places_more : (n place : ℕ) (sheet mid now : Sheet) → n ≤ place → IsReferenceIn o len place → ((k : ℕ) → n ≤ k → k < place → IsReferenceIn o len k → ⊥)
+      → IsRenamed (IsPlaceBelow o len s n) to sheet mid → IsRenamed (λ i. i ≡ s + 2 + place) to mid now → IsRenamed (IsPlaceBelow o len s (place + 1)) to sheet now
+  places_more n place sheet mid now from is between first second =
+      renamed_then (IsPlaceBelow o len s n) (λ i. i ≡ s + 2 + place) (IsPlaceBelow o len s (place + 1)) to sheet mid now first second
+      (λ i p e. omega (arith, p.low, p.is, e, from)) parts
+      (λ i p. record { place = p.place; low = omega (arith, p.low, from); reference = p.reference; is = p.is })
+      (λ i e. record { place = place; low = omega arith; reference = is; is = e })
     where
-      parts : (i : ℕ) → IsPlaceBelow o len s (n + 1) i → IsPlaceBelow o len s n i ⊎ (IsReferenceIn o len n × (i ≡ s + 2 + n))
-      parts i p = elim (cases_eq p.place n) [
-        | inl same ↦ inr (subst (IsReferenceIn o len) same p.reference, p.is ∙ ap (λ k. s + 2 + k) same)
-        | inr apart ↦ inl (record { place = p.place; low = omega (arith, p.low); reference = p.reference; is = p.is })
+      parts : (i : ℕ) → IsPlaceBelow o len s (place + 1) i → IsPlaceBelow o len s n i ⊎ (i ≡ s + 2 + place)
+      parts i p = elim (cases_lt p.place n) [
+        | inl before ↦ inl (record { place = p.place; low = before; reference = p.reference; is = p.is })
+        | inr behind ↦ elim (cases_eq p.place place) [
+          | inl same ↦ inr (p.is ∙ ap (λ k. s + 2 + k) same)
+          | inr apart ↦ absurd (between p.place behind (omega (arith, p.low)) p.reference)
+        ]
       ]
 
-pub places_all : (catalog : List Fields) (sheet now : Sheet) (s n : ℕ) (o : Option Fields) (len : ℕ) (to : ℕ → ℕ) → o ≡ map_at catalog sheet s → len ≡ tail_at sheet s → ((k : ℕ) → IsReferenceIn o len k → k < n)
+pub places_all : (catalog : List Fields) (sheet now : Sheet) (s n : ℕ) (o : Option Fields) (len : ℕ) (to : ℕ → ℕ) → o ≡ map_at catalog sheet s → len ≡ tail_at sheet s → ((k : ℕ) → n ≤ k → IsReferenceIn o len k → ⊥)
     → IsRenamed (IsPlaceBelow o len s n) to sheet now → IsRenamed (IsPlaceOf catalog sheet s) to sheet now
-places_all catalog sheet now s n o len to map_is len_is every is = renamed_as (IsPlaceBelow o len s n) (IsPlaceOf catalog sheet s) to sheet now is back on
+places_all catalog sheet now s n o len to map_is len_is past is = renamed_as (IsPlaceBelow o len s n) (IsPlaceOf catalog sheet s) to sheet now is back on
   where
     to_o : (k : ℕ) → IsReferenceIn (map_at catalog sheet s) (tail_at sheet s) k → IsReferenceIn o len k
     to_o k item = (let P : ℕ → Type 0 = λ l. IsReferenceIn (map_at catalog sheet s) l k in let Q : Option Fields → Type 0 = λ m. IsReferenceIn m len k in subst Q (sym map_is) (subst P (sym len_is) item))
@@ -63,8 +66,11 @@ places_all catalog sheet now s n o len to map_is len_is every is = renamed_as (I
     from_o : (k : ℕ) → IsReferenceIn o len k → IsReferenceIn (map_at catalog sheet s) (tail_at sheet s) k
     from_o k item = (let P : ℕ → Type 0 = λ l. IsReferenceIn (map_at catalog sheet s) l k in let Q : Option Fields → Type 0 = λ m. IsReferenceIn m len k in subst P len_is (subst Q map_is item))
 
+    low : (k : ℕ) → IsReferenceIn o len k → k < n
+    low k item = elim (cases_lt k n) [ inl before ↦ before | inr behind ↦ absurd (past k behind item) ]
+
     back : (i : ℕ) → IsPlaceOf catalog sheet s i → IsPlaceBelow o len s n i
-    back i p = record { place = p.place; low = every p.place (to_o p.place p.reference); reference = to_o p.place p.reference; is = p.is }
+    back i p = record { place = p.place; low = low p.place (to_o p.place p.reference); reference = to_o p.place p.reference; is = p.is }
 
     on : (i : ℕ) → IsPlaceBelow o len s n i → IsPlaceOf catalog sheet s i
     on i p = record { place = p.place; reference = from_o p.place p.reference; is = p.is }

@@ -1,6 +1,8 @@
 -- Blocks of places for the words of pages, and what tables of all these places say.
 use Rattle.std.specs.Prelude.{ℕ, ◌≡◌, ◌⊎◌, ◌↔◌, ◌+◌, ◌*◌, ◌<◌, Bool, true, false, List, length, slice_index, slice_index_or}
 use Rattle.std.specs.List.{Contains, count_by}
+use Rattle.std.specs.FinSet as set
+use Rattle.std.specs.Ordering.{nat_cmp}
 use Rattle.pm3_types.specs.Layout.{is_address, page_in, word_in}
 use Rattle.pm3_types.specs.PassMoves.{IsRising}
 
@@ -27,6 +29,10 @@ pub record AreBlocks (blocks : List ℕ) (words : ℕ) : Type 0 where
 -- each member of a list is an address on a page with a block
 abbrev pub AreOnBlocks : ℕ → List ℕ → ℕ → List ℕ → Type 0
 AreOnBlocks base blocks words list = (a : ℕ) → Contains list a → (is_address base a ≡ true) × HasBlock blocks words (page_in base a)
+
+-- each member of a list is an address on one of these pages
+abbrev pub AreOnSome : ℕ → set.FinSet nat_cmp → List ℕ → Type 0
+AreOnSome base pages list = (a : ℕ) → Contains list a → (is_address base a ≡ true) × (set.contains pages (page_in base a) ≡ true)
 
 -- the number at the place of a word
 abbrev pub number_of : ℕ → List ℕ → List ℕ → ℕ → ℕ

@@ -1,18 +1,22 @@
 -- What images refer to, image by image.
-use Rattle.std.specs.Prelude.{ℕ, ◌≡◌, ◌≢◌, ◌⊎◌, ◌+◌, ◌<◌, true, List, Some, slice_index}
+use Rattle.std.specs.Prelude.{ℕ, ◌≡◌, ◌≢◌, ◌⊎◌, ◌+◌, ◌-◌, ◌<◌, ◌≤◌, true, List, Option, None, Some, slice_index}
 use Rattle.std.specs.FinMap as map
 use Rattle.pm3_types.specs.Fields.{Fields}
-use Rattle.pm3_types.specs.declared.type_map.Tail.{Tail}
-use Rattle.pm3_types.specs.declared.type_map.Tail.TheVariants.{Empty, Refs, Bytes}
 use Rattle.pm3_types.specs.Layout.{Sheet, PageImage, word_in, begins_at}
-use Rattle.pm3_types.specs.PageForm.{IsReferenceIn, map_at, tail_at}
+use Rattle.pm3_types.specs.PageForm.{IsReferenceIn, IsTailReference, map_at, tail_at}
 use Rattle.pm3_page.specs.PageMap.{Images}
 
--- the references of a tail of this length
-abbrev pub tail_references : Tail → ℕ → ℕ
-tail_references Empty len = 0
-tail_references Refs len = len
-tail_references Bytes len = 0
+-- the first reference of an object's tail from a place on, or None where there is none
+abbrev pub IsNextInTail : Fields → ℕ → ℕ → Option ℕ → Type 0
+IsNextInTail map len from None = (k : ℕ) → from ≤ k → map.count ≤ k → IsTailReference map.tail len (k - map.count) → ⊥
+IsNextInTail map len from (Some place) =
+    (from ≤ place) × (map.count ≤ place) × IsTailReference map.tail len (place - map.count) × ((k : ℕ) → from ≤ k → map.count ≤ k → k < place → ⊥)
+
+-- the first reference of an object from a place on, or None where there is none
+abbrev pub IsNextReference : Fields → ℕ → ℕ → Option ℕ → Type 0
+IsNextReference map len from None = (k : ℕ) → from ≤ k → IsReferenceIn (Some map) len k → ⊥
+IsNextReference map len from (Some place) =
+    (from ≤ place) × IsReferenceIn (Some map) len place × ((k : ℕ) → from ≤ k → k < place → IsReferenceIn (Some map) len k → ⊥)
 
 -- the object at a word of a sheet has this word in a reference place
 pub record RefersIn (catalog : List Fields) (sheet : Sheet) (s b : ℕ) : Type 0 where

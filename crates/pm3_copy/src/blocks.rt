@@ -1,11 +1,11 @@
-//! A block for each page of a space, with a place for each word.
+//! A block for each page of a set, with a place for each word.
 ghost use Rattle.std.specs.Prelude.{◌≡◌, ◌+◌, ◌*◌, ◌<◌, ◌≤◌, ℕ, true, replicate, IfOk, MatchOption};
-ghost use Rattle.std.specs.FinMap as map;
+ghost use Rattle.std.specs.FinSet as set;
 ghost use Rattle.pm3_types.specs.Layout.{is_address, page_in};
 ghost use Rattle.pm3_copy.specs.Blocks.{block_of, slot_of, HasBlock, AreBlocks};
 
 use pm3_core::PAGE_BYTES;
-use pm3_page::{BASE, PageNo, Pages};
+use pm3_page::{BASE, PageNo, PageSet, is_word};
 use pm3_types::Memory;
 use std::alloc::Global;
 
@@ -26,15 +26,15 @@ pub(crate) struct Blocks {
 }
 
 impl Blocks {
-    /// A block for each page of these images.
-    pub(crate) fn of(alloc: Global, images: &Pages) -> Result<Blocks, Memory>
+    /// A block for each of these pages.
+    pub(crate) fn of(alloc: Global, pages: &PageSet) -> Result<Blocks, Memory>
         ensures blocks { IfOk result (λ blocks. AreBlocks blocks.by_page.items blocks.words) }
-        ensures all { IfOk result (λ blocks. (p : ℕ) → map.contains_key images.now.images p ≡ true → HasBlock blocks.by_page.items blocks.words p) }
+        ensures all { IfOk result (λ blocks. (p : ℕ) → set.contains pages.now p ≡ true → HasBlock blocks.by_page.items blocks.words p) }
     {
         let by_page = no_blocks(alloc, MOST_PAGES)?;
         let mut blocks = Blocks { by_page, words: 0 };
         let mut from = 0;
-        while let Some(page) = images.next(from) {
+        while let Some(page) = pages.next(from) {
             blocks.add(page);
             from = page + 1;
         }
@@ -56,12 +56,11 @@ impl Blocks {
     }
 
     /// The place of the word at this address, or None exactly where this is no address on a page with a block.
-    #[tactic(auto, unfolding(pm3_types::specs::Layout::is_address))]
     pub(crate) fn place_of(&self, at: u64) -> Option<usize>
         ensures { MatchOption result (is_address BASE at ≡ true → slot_of BASE self.now.by_page.items at < self.now.words → ⊥)
             (λ place. (is_address BASE at ≡ true) × (place ≡ slot_of BASE self.now.by_page.items at) × (place < self.now.words)) }
     {
-        if at < BASE || (at - BASE) % 8 != 0 {
+        if !is_word(at) {
             return None;
         }
         let place = self.slot_of(at);

@@ -3,7 +3,7 @@ ghost use Rattle.std.specs.Prelude.{◌≡◌, ◌≢◌, ◌+◌, ◌<◌, ◌�
 ghost use Rattle.std.specs.FinMap as map;
 ghost use Rattle.std.specs.FinSet as set;
 ghost use Rattle.pm3_types.specs.Layout.{PageImage, begins_at, page_in, word_in, size_at};
-ghost use Rattle.pm3_types.specs.PageForm.{IsSound, IsReferenceIn};
+ghost use Rattle.pm3_types.specs.PageForm.{IsSound};
 ghost use Rattle.pm3_page.specs.PageMap.{IsAtHome};
 ghost use Rattle.pm3_page.specs.PageSheets.{AreSoundPages};
 ghost use Rattle.pm3_copy.specs.Finds.{Adds};
@@ -12,16 +12,15 @@ ghost use Rattle.pm3_types.specs.Whole.{IsWhole};
 ghost use Rattle.pm3_copy.specs.Whole.{IsObjectOf};
 
 use crate::finds::Found;
-use crate::objects::{is_reference_place, map_of, reference_places};
-use pm3_page::{Addr, BASE, Image, PageNo, PageSet, Pages};
-use pm3_types::{Catalog, TypeMap};
+use crate::objects::{map_of, next_reference};
+use pm3_page::{Addr, BASE, Image, PageNo, PageSet, Pages, ROOTS_PAGE};
+use pm3_types::Catalog;
 
-/// The page of the roots, and the number of root slots.
-const ROOTS_PAGE: PageNo = 2;
-
+/// The number of root slots.
 const ROOT_SLOTS: u32 = 16;
 
 /// Finds the objects that the object at `at` refers to.
+#[inline(always)]
 pub(crate) fn find_referred(catalog: &Catalog, image: &Image, at: Addr, found: &mut Found)
     requires object { begins_at BASE image.now at ≡ true }
     requires whole { IsWhole catalog.now image.now.sheet (word_in BASE at) }
@@ -29,19 +28,10 @@ pub(crate) fn find_referred(catalog: &Catalog, image: &Image, at: Addr, found: &
 {
     let map = map_of(catalog, image, at);
     let tail = image.tail_len(at);
-    for place in 0..reference_places(map, tail) {
-        find_at_place(map, tail, image, at, place, found);
-    }
-}
-
-/// Finds the object that stands in a place of the object at `at`, if the place is that of a reference.
-fn find_at_place(map: TypeMap, tail: u32, image: &Image, at: Addr, place: u32, found: &mut Found)
-    requires object { begins_at BASE image.now at ≡ true }
-    requires within { word_in BASE at + 2 + place < 512 }
-    ensures { Adds (λ b. IsReferenceIn (Some map) tail place × (slice_index image.now.sheet.words (word_in BASE at + 2 + place) ≡ b)) found.old found.new }
-{
-    if is_reference_place(map, tail, place) {
+    let mut from = 0;
+    while let Some(place) = next_reference(map, tail, from) {
         found.find(image.field(at, place));
+        from = place + 1;
     }
 }
 

@@ -114,14 +114,6 @@ impl Found {
             unreachable!()
         };
     }
-
-    /// The blocks of the pages on which all objects lie.
-    pub(crate) fn into_blocks(self) -> Blocks
-        ensures blocks { AreBlocks result.by_page.items result.words }
-        ensures on_blocks { AreOnBlocks BASE result.by_page.items result.words self.objects }
-    {
-        self.blocks
-    }
 }
 
 /// The flags by which just these objects wait.

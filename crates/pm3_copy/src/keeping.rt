@@ -10,8 +10,7 @@ ghost use Rattle.pm3_copy.specs.Whole.{IsObjectOf};
 
 use crate::finding::{find_on_pages, find_referred};
 use crate::finds::Found;
-use crate::objects::page_of;
-use pm3_page::{Addr, BASE, PageSet, Pages};
+use pm3_page::{Addr, BASE, PageSet, Pages, page_of};
 use pm3_types::Catalog;
 
 /// Finds the objects that stay in the space, besides those that turn persistent, which have been found.

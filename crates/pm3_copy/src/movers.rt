@@ -6,8 +6,7 @@ ghost use Rattle.pm3_types.specs.PassMoves.{IsRising, IsListOf};
 ghost use Rattle.pm3_copy.specs.Spreading.{AreOnPages, IsFree, Picks, TakesUp};
 
 use crate::finds::Found;
-use crate::objects::page_of;
-use pm3_page::{Addr, BASE, PageSet};
+use pm3_page::{Addr, BASE, PageSet, page_of};
 use pm3_types::Memory;
 use std::alloc::Global;
 

@@ -12,10 +12,9 @@ ghost use Rattle.pm3_copy.specs.Whole.{IsObjectOf};
 
 use crate::copying::copy_object;
 use crate::leaving::Leaving;
-use crate::objects::page_of;
 use crate::tables::Table;
 use crate::wanted::{PAGE_WORDS, size_at};
-use pm3_page::{Addr, BASE, PageNo, Pages};
+use pm3_page::{Addr, BASE, PageNo, Pages, page_of};
 use pm3_types::Catalog;
 
 /// Where the next object goes: the page that is being filled, and the word behind its last object.

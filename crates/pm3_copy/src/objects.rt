@@ -1,28 +1,18 @@
 //! The objects of images, in the order of their addresses, and the places of an object.
-ghost use Rattle.std.specs.Prelude.{◌≡◌, ◌+◌, ◌<◌, ◌≤◌, ◌++◌, ◌↔◌, ℕ, List, true, Some, IfOk, OnOk, IsTrue};
+ghost use Rattle.std.specs.Prelude.{◌≡◌, ◌+◌, ◌<◌, ◌≤◌, ◌++◌, ℕ, List, true, Some, IfOk, IfSome, OnOk};
 ghost use Rattle.pm3_types.specs.Fields.{is_reference};
-ghost use Rattle.pm3_types.specs.Layout.{begins_at, is_address, page_in, word_in, size_at, tail_words};
-ghost use Rattle.pm3_types.specs.PageForm.{IsReferenceIn, map_at, tail_at};
+ghost use Rattle.pm3_types.specs.Layout.{begins_at, word_in, size_at, tail_words};
+ghost use Rattle.pm3_types.specs.PageForm.{map_at, tail_at};
 ghost use Rattle.pm3_types.specs.PassMoves.{IsListOf};
 ghost use Rattle.pm3_page.specs.PageMap.{IsAtHome};
 ghost use Rattle.pm3_types.specs.Whole.{IsWhole};
-ghost use Rattle.pm3_copy.specs.References.{tail_references};
+ghost use Rattle.pm3_page.specs.Next.{IsNext};
+ghost use Rattle.pm3_copy.specs.References.{IsNextReference, IsNextInTail};
 ghost use Rattle.pm3_copy.specs.Whole.{IsObjectOf};
 
-use pm3_core::PAGE_BYTES;
-use pm3_page::{Addr, BASE, Image, PageNo, Pages};
+use pm3_page::{Addr, BASE, Image, Pages};
 use pm3_types::{Catalog, Memory, Tail, TypeMap};
 use std::alloc::Global;
-
-/// The page on which an address lies.
-#[tactic(auto, unfolding(pm3_types::specs::Layout::page_in), using(pm3_types::proofs::Addressing::above_base))]
-pub(crate) fn page_of(at: Addr) -> PageNo
-    requires address { is_address BASE at ≡ true }
-    requires low { page_in BASE at < 16384 }
-    ensures { result ≡ page_in BASE at }
-{
-    ((at - BASE) / PAGE_BYTES) as PageNo
-}
 
 /// The addresses of all objects of the images, in rising order.
 pub(crate) fn objects_of(alloc: Global, images: &Pages) -> Result<Vec<Addr>, Memory>
@@ -91,40 +81,43 @@ fn words_of_tail(tail: Tail, len: u32) -> u64
     }
 }
 
-/// How many places of an object with this map and a tail of this length may be those of references: no later one is.
-pub(crate) fn reference_places(map: TypeMap, len: u32) -> u32
-    requires { map.count + tail_references map.tail len ≤ 512 }
-    ensures { result ≡ map.count + tail_references map.tail len }
+/// The first reference of an object with this map and a tail of this length, from a place on.
+pub(crate) fn next_reference(map: TypeMap, len: u32, from: u32) -> Option<u32>
+    ensures { IsNextReference map len from result }
 {
-    u32::from(map.count) + references_of_tail(map.tail, len)
-}
-
-/// The references of a tail of this length.
-fn references_of_tail(tail: Tail, len: u32) -> u32
-    ensures { result ≡ tail_references tail len }
-{
-    match tail {
-        Tail::Refs => len,
-        Tail::Empty | Tail::Bytes => 0,
+    if let Some(field) = next_field(map, from) {
+        return Some(field);
     }
+    next_in_tail(map, len, from)
 }
 
-/// Whether a place of an object with this map and a tail of this length is that of a reference.
-pub(crate) fn is_reference_place(map: TypeMap, len: u32, place: u32) -> bool
-    ensures { IsTrue result ↔ IsReferenceIn (Some map) len place }
+/// The first field from this one on that is a reference.
+fn next_field(map: TypeMap, from: u32) -> Option<u32>
+    ensures next { IsNext (is_reference map) from result }
+    ensures within { IfSome result (λ field. field < map.count) }
 {
+    if from >= u32::from(map.count) {
+        return None;
+    }
+    let rest = map.refs >> from;
+    if rest == 0 {
+        return None;
+    }
+    Some(from + rest.trailing_zeros())
+}
+
+/// The first reference of the tail from a place on.
+fn next_in_tail(map: TypeMap, len: u32, from: u32) -> Option<u32>
+    ensures { IsNextInTail map len from result }
+{
+    if map.tail != Tail::Refs {
+        return None;
+    }
     let count = u32::from(map.count);
-    if place < count {
-        return is_reference_field(map, place);
+    let place = from.max(count);
+    if place - count < len {
+        Some(place)
+    } else {
+        None
     }
-    map.tail == Tail::Refs && place - count < len
-}
-
-/// Whether a field of the type is a reference.
-#[tactic(auto, unfolding(pm3_types::specs::Fields::is_reference))]
-fn is_reference_field(map: TypeMap, field: u32) -> bool
-    requires { field < map.count }
-    ensures { result ≡ is_reference map field }
-{
-    map.refs >> field & 1 == 1
 }

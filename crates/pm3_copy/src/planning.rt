@@ -1,13 +1,13 @@
 //! A pass is planned.
 ghost use Rattle.std.specs.Prelude.{◌≡◌, ◌↔◌, ◌+◌, ◌<◌, ◌≤◌, ◌^◌, ℕ, List, [], length, true, false, IfOk, OnOk};
-ghost use Rattle.std.specs.List.{All, Contains};
+ghost use Rattle.std.specs.List.{Contains};
 ghost use Rattle.std.specs.FinMap as map;
 ghost use Rattle.std.specs.FinSet as set;
 ghost use Rattle.pm3_types.specs.Fields.{Fields};
 ghost use Rattle.pm3_types.specs.PassMoves.{AreMovers, IsListOf, IsRising};
 ghost use Rattle.pm3_types.specs.PassSets.{Promoted, Kept};
 ghost use Rattle.pm3_page.specs.PageSheets.{AreSoundPages};
-ghost use Rattle.pm3_copy.specs.Blocks.{AreBothNumbered};
+ghost use Rattle.pm3_copy.specs.Blocks.{AreBothNumbered, AreOnSome};
 ghost use Rattle.pm3_copy.specs.Planning.{IsPlan};
 ghost use Rattle.pm3_copy.specs.Spreading.{before_of, AreTurned, Frees};
 ghost use Rattle.pm3_copy.specs.Whole.{IsObjectOf};
@@ -47,11 +47,11 @@ pub fn plan(
         promoted,
         kept,
         turned,
+        freed,
         index,
     } = find_moving(alloc, catalog, volatile, written, pinned)?;
     let persistent = pages_for(catalog, volatile, &promoted);
     let staying = pages_for(catalog, volatile, &kept);
-    let freed = unpinned(alloc, volatile, pinned)?;
     let moved = (promoted.len() + kept.len()) as u32;
     let going = Leaving::of(promoted)?;
     let left = Leaving::of(kept)?;
@@ -68,12 +68,13 @@ pub fn plan(
     })
 }
 
-/// The objects that move, of each kind, and their index, and the pinned pages that turn persistent.
+/// The objects that move, of each kind, and their index, the pinned pages that turn persistent, and the pages that are given up.
 #[derive(Debug, Drop)]
 struct Moving {
     promoted: Vec<Addr>,
     kept: Vec<Addr>,
     turned: PageSet,
+    freed: PageSet,
     index: Index,
 }
 
@@ -92,6 +93,7 @@ fn find_moving(
     ensures kept { IfOk result (λ moving. let before = before_of volatile.now.images written.now.images pinned.now in
         AreMovers BASE before (Kept catalog.now BASE before) moving.kept.items) }
     ensures turned { IfOk result (λ moving. AreTurned catalog.now BASE (before_of volatile.now.images written.now.images pinned.now) moving.turned) }
+    ensures freed { IfOk result (λ moving. (p : ℕ) → (set.contains moving.freed p ≡ true) ↔ ((map.contains_key volatile.now.images p ≡ true) × (set.contains pinned.now p ≡ false))) }
     ensures numbered { IfOk result (λ moving. AreBothNumbered BASE moving.index.blocks.by_page.items moving.index.numbers.items moving.promoted.items moving.kept.items) }
 {
     let mut found = none_found(alloc, volatile)?;
@@ -99,11 +101,14 @@ fn find_moving(
     let promoted = movers(alloc, &found, pinned, &[])?;
     keep(catalog, volatile, pinned, &mut found);
     let kept = movers(alloc, &found, pinned, &promoted)?;
-    let index = index_of(alloc, found, &promoted, &kept)?;
+    drop(found);
+    let freed = unpinned(alloc, volatile, pinned)?;
+    let index = index_of(alloc, &freed, &promoted, &kept)?;
     Ok(Moving {
         promoted,
         kept,
         turned,
+        freed,
         index,
     })
 }
@@ -115,22 +120,28 @@ fn none_found(alloc: Global, images: &Pages) -> Result<Found, Memory>
     ensures none { IfOk result (λ found. found.list ≡ []) }
 {
     let objects = objects_of(alloc, images)?;
-    let blocks = Blocks::of(alloc, images)?;
+    let pages = unpinned(alloc, images, &PageSet::new(alloc))?;
+    let blocks = Blocks::of(alloc, &pages)?;
     let found = Found::none(objects, blocks)?;
     Ok(found)
 }
 
-/// The index of the objects that move, by their places in both lists, one behind the other.
-fn index_of(alloc: Global, found: Found, promoted: &[Addr], kept: &[Addr]) -> Result<Index, Memory>
-    requires promoted { All (Contains found.objects) promoted.now }
-    requires kept { All (Contains found.objects) kept.now }
+/// The index of the objects that move from these pages, by their places in both lists, one behind the other.
+fn index_of(
+    alloc: Global,
+    pages: &PageSet,
+    promoted: &[Addr],
+    kept: &[Addr],
+) -> Result<Index, Memory>
+    requires promoted { AreOnSome BASE pages.now promoted.now }
+    requires kept { AreOnSome BASE pages.now kept.now }
     requires promoted_rise { IsRising promoted.now }
     requires kept_rise { IsRising kept.now }
     requires apart { (a : ℕ) → Contains promoted.now a → Contains kept.now a → ⊥ }
     requires few { length promoted.now + length kept.now < 2 ^ 32 }
     ensures { IfOk result (λ index. AreBothNumbered BASE index.blocks.by_page.items index.numbers.items promoted.now kept.now) }
 {
-    let mut index = Index::over(alloc, found.into_blocks())?;
+    let mut index = Index::over(alloc, Blocks::of(alloc, pages)?)?;
     index.number(0, promoted);
     index.number(promoted.len(), kept);
     Ok(index)

@@ -13,8 +13,7 @@ ghost use Rattle.pm3_copy.specs.Whole.{IsObjectOf};
 
 use crate::finding::{find_from_images, find_objects, find_referred};
 use crate::finds::Found;
-use crate::objects::page_of;
-use pm3_page::{Addr, BASE, Image, PageNo, PageSet, Pages};
+use pm3_page::{Addr, BASE, Image, PageNo, PageSet, Pages, page_of};
 use pm3_types::{Catalog, Memory};
 use std::alloc::Global;
 

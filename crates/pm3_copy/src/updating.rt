@@ -1,19 +1,17 @@
 //! References follow the objects that moved.
 ghost use Rattle.std.specs.Prelude.{◌≡◌, ◌≢◌, ◌+◌, ◌<◌, ℕ, true, Some, length, slice_index};
 ghost use Rattle.pm3_types.specs.Layout.{begins_at, word_in, size_at};
-ghost use Rattle.pm3_types.specs.PageForm.{IsSound, IsReferenceIn};
+ghost use Rattle.pm3_types.specs.PageForm.{IsSound};
 ghost use Rattle.pm3_copy.specs.Renaming.{IsRenamed, IsPlaceIn, IsPlaceOf, IsRootPlace, IsUpdated, KeepsReferences};
 ghost use Rattle.pm3_copy.specs.Tables.{follows, AreTables};
 ghost use Rattle.pm3_types.specs.Whole.{IsWhole};
 
-use crate::objects::{is_reference_place, map_of, reference_places};
+use crate::objects::{map_of, next_reference};
 use crate::tables::Tables;
-use pm3_page::{Addr, BASE, Image, PageNo};
-use pm3_types::{Catalog, TypeMap};
+use pm3_page::{Addr, BASE, Image, ROOTS_PAGE};
+use pm3_types::Catalog;
 
-/// The page of the roots, and the number of root slots.
-const ROOTS_PAGE: PageNo = 2;
-
+/// The number of root slots.
 const ROOT_SLOTS: u32 = 16;
 
 /// Lets all references of an image follow: those in the root slots, or those of its objects.
@@ -73,22 +71,22 @@ fn update_object(catalog: &Catalog, image: &mut Image, at: Addr, tables: &Tables
 {
     let map = map_of(catalog, image, at);
     let tail = image.tail_len(at);
-    for place in 0..reference_places(map, tail) {
-        update_place(map, tail, image, at, place, tables);
+    let mut from = 0;
+    while let Some(place) = next_reference(map, tail, from) {
+        update_place(image, at, place, tables);
+        from = place + 1;
     }
 }
 
-/// Lets the word in a place of the object at `at` follow, if it is a reference.
-fn update_place(map: TypeMap, tail: u32, image: &mut Image, at: Addr, place: u32, tables: &Tables)
+/// Lets the reference in a place of the object at `at` follow.
+fn update_place(image: &mut Image, at: Addr, place: u32, tables: &Tables)
     requires tables { AreTables BASE tables.now }
     requires object { begins_at BASE image.old at ≡ true }
     requires within { word_in BASE at + 2 + place < 512 }
     requires long { length image.old.sheet.words ≡ 512 }
     ensures page { image.new.page ≡ image.old.page }
-    ensures sheet { IsRenamed (λ i. IsReferenceIn (Some map) tail place × (i ≡ word_in BASE at + 2 + place)) (follows tables.now) image.old.sheet image.new.sheet }
+    ensures sheet { IsRenamed (λ i. i ≡ word_in BASE at + 2 + place) (follows tables.now) image.old.sheet image.new.sheet }
 {
-    if is_reference_place(map, tail, place) {
-        let word = image.field(at, place);
-        image.set_field(at, place, tables.follow(word));
-    }
+    let word = image.field(at, place);
+    image.set_field(at, place, tables.follow(word));
 }

@@ -5,8 +5,8 @@ ghost use Rattle.pm3_types.specs.PassMoves.{size_from, sizes, pages_wanted};
 ghost use Rattle.pm3_page.specs.PageSheets.{AreSoundPages, sheets_of};
 ghost use Rattle.pm3_copy.specs.Whole.{IsObjectOf};
 
-use crate::objects::{page_of, size_of};
-use pm3_page::{Addr, BASE, Pages};
+use crate::objects::size_of;
+use pm3_page::{Addr, BASE, Pages, page_of};
 use pm3_types::Catalog;
 
 /// The number of words of a page.

@@ -2,9 +2,10 @@ use Rattle.std.proofs.Common.{◌∙◌, ℕ, List, length, ap, sym, subst, arit
 use Rattle.std.specs.List.{All, Contains}
 use Rattle.pm3_core.specs.declared.naming.TheConstants.{BASE}
 use Rattle.pm3_types.specs.PassMoves.{IsRising, IsListOf}
-use Rattle.pm3_copy.specs.Blocks.{AreBothNumbered}
+use Rattle.pm3_types.specs.PassSets.{Promoted, Kept}
+use Rattle.pm3_copy.specs.Blocks.{AreBothNumbered, AreOnSome}
 use Rattle.pm3_copy.specs.Spreading.{Picks, before_of}
-use Rattle.pm3_copy.proofs.PlanParts.{few, on_pages, promoted_movers, kept_movers, promoted_objects, kept_objects}
+use Rattle.pm3_copy.proofs.PlanParts.{few, on_pages, movers_on, promoted_movers, kept_movers, promoted_object, kept_object, promoted_objects, kept_objects}
 use Rattle.pm3_copy.proofs.Stayers.{kept_apart}
 use Rattle.pm3_copy.proofs.planning.find_moving.Goals as goal
 
@@ -39,13 +40,29 @@ returns-clause-kept c =
 pub returns-clause-turned : goal.returns-clause-turned
 returns-clause-turned c = c.in_ok-turned.ensures.turned
 
+pub returns-clause-freed : goal.returns-clause-freed
+returns-clause-freed c = c.in_ok-freed.ensures
+
 pub index_of-requires-clause-promoted : goal.index_of-requires-clause-promoted
 index_of-requires-clause-promoted c =
-    subst (All (Contains c.keep.new.found.objects)) (sym c.deref-2.ensures.value)
-    (subst (λ (xs : List ℕ). All (Contains xs) c.in_ok-promoted.promoted.items) (sym c.keep.ensures.objects) c.in_ok-promoted.ensures.within)
+    let before = before_of c.args.volatile.now.images c.args.written.now.images c.args.pinned.now in
+    let movers = promoted_movers c.args.catalog.now BASE c.args.volatile.now.images c.args.written.now.images c.args.pinned.now c.requires.volatile c.promote.new.found c.in_ok-promoted.promoted.items
+    c.in_ok-turned.ensures.promoted c.in_ok-promoted.ensures.picked in
+    subst (AreOnSome BASE c.in_ok-freed.freed) (sym c.deref-2.ensures.value)
+    (movers_on c.args.catalog.now BASE c.args.volatile.now.images c.args.written.now.images c.args.pinned.now c.requires.volatile (Promoted c.args.catalog.now BASE before) c.in_ok-promoted.promoted.items
+    c.in_ok-freed.freed (promoted_object c.args.catalog.now BASE c.args.volatile.now.images c.args.written.now.images c.args.pinned.now c.requires.volatile) movers c.in_ok-freed.ensures)
 
 pub index_of-requires-clause-kept : goal.index_of-requires-clause-kept
-index_of-requires-clause-kept c = subst (All (Contains c.keep.new.found.objects)) (sym c.deref-3.ensures.value) c.in_ok-kept.ensures.within
+index_of-requires-clause-kept c =
+    let before = before_of c.args.volatile.now.images c.args.written.now.images c.args.pinned.now in
+    let promoted = promoted_movers c.args.catalog.now BASE c.args.volatile.now.images c.args.written.now.images c.args.pinned.now c.requires.volatile c.promote.new.found c.in_ok-promoted.promoted.items
+    c.in_ok-turned.ensures.promoted c.in_ok-promoted.ensures.picked in
+    let movers = kept_movers c.args.catalog.now BASE c.args.volatile.now.images c.args.written.now.images c.args.pinned.now c.requires.volatile c.keep.new.found c.in_ok-promoted.promoted.items c.in_ok-kept.kept.items
+    (c.keep.ensures.live c.args.written.now.images c.in_ok-turned.ensures.promoted) promoted
+    (subst (λ (xs : List ℕ). IsListOf (Picks BASE c.args.pinned.now xs c.keep.new.found) c.in_ok-kept.kept.items) c.deref.ensures.value c.in_ok-kept.ensures.picked) in
+    subst (AreOnSome BASE c.in_ok-freed.freed) (sym c.deref-3.ensures.value)
+    (movers_on c.args.catalog.now BASE c.args.volatile.now.images c.args.written.now.images c.args.pinned.now c.requires.volatile (Kept c.args.catalog.now BASE before) c.in_ok-kept.kept.items
+    c.in_ok-freed.freed (kept_object c.args.catalog.now BASE c.args.volatile.now.images c.args.written.now.images c.args.pinned.now c.requires.volatile) movers c.in_ok-freed.ensures)
 
 pub index_of-requires-clause-apart : goal.index_of-requires-clause-apart
 index_of-requires-clause-apart c a one other =

@@ -68,14 +68,14 @@ returns-clause-plan c =
       promoted = first;
       kept = second;
       turned = c.in_ok-promoted.field-0.turned;
-      freed = c.in_ok-freed.freed;
+      freed = c.in_ok-promoted.field-0.freed;
     }) in
     let made : Is c.in_ok-promoted.field-0.promoted.items c.in_ok-promoted.field-0.kept.items = record {
       promoted = c.in_ok-promoted.ensures.promoted;
       kept = c.in_ok-promoted.ensures.kept;
       turned = c.in_ok-promoted.ensures.turned;
-      freed = λ p. (let P : Bool → Type 0 = λ b. (set.contains c.in_ok-freed.freed p ≡ true) ↔ ((b ≡ true) × (set.contains c.args.pinned.now p ≡ false)) in
-          subst P (sym (same_pages c.args.volatile.now.images p)) (c.in_ok-freed.ensures p));
+      freed = λ p. (let P : Bool → Type 0 = λ b. (set.contains c.in_ok-promoted.field-0.freed p ≡ true) ↔ ((b ≡ true) × (set.contains c.args.pinned.now p ≡ false)) in
+          subst P (sym (same_pages c.args.volatile.now.images p)) (c.in_ok-promoted.ensures.freed p));
       persistent = wanted;
       volatile = staying;
       few_persistent = omega (arith, wanted, bound);
