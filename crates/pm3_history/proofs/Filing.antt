@@ -38,7 +38,7 @@ pub opening_bounded : (base : ℕ) (file journal : List ℕ) (g : Part) (o : Ope
 opening_bounded base file journal g o =
     let st : State = opening_state o.catalog base o.images o.book o.next_name o.high_page in
     record {
-      names = λ a n has. o.reached.names a n (off_cases base st.book st.owner a n has).1;
+      names = o.reached.names;
       pages = λ a n has. o.reached.pages a n (off_cases base st.book st.owner a n has).1;
       references = λ a n s k sheet has on starts is. o.reached.references a n s k sheet (off_cases base st.book st.owner a n has).1 on starts is;
     }
@@ -76,7 +76,7 @@ module _ (catalog : List Fields) (base count : ℕ) (st : State) (file : List �
     reached = reached_in_cut catalog base (persistent_book base st) st.pages fits placed above chron.roots;
     only = cut_reached catalog base (persistent_book base st) st.pages fits placed above chron.roots;
     fits = cut_fits catalog base (persistent_book base st) st.pages fits placed above chron.roots;
-    names = λ a n has. bounded.names a n (of_cut catalog base (persistent_book base st) st.pages fits placed above chron.roots a n has).0;
+    names = λ a n has. bounded.names a n (off_cases base st.book st.owner a n (of_cut catalog base (persistent_book base st) st.pages fits placed above chron.roots a n has).0).1;
     pages = λ a n has. bounded.pages a n (of_cut catalog base (persistent_book base st) st.pages fits placed above chron.roots a n has).0;
     references = λ a n s k sheet has on starts is.
         bounded.references a n s k sheet (of_cut catalog base (persistent_book base st) st.pages fits placed above chron.roots a n has).0 on starts is;

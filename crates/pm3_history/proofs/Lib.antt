@@ -16,13 +16,13 @@ pub mod Sparing
 pub mod RunNames
 pub mod Names
 pub mod NamedOn
+pub mod Marking
+pub mod OwnedBy
+pub mod Passing
 -- Lemmas of this crate.
 mod BookOf
 mod Cutting
 mod Losing
-mod Marking
-mod OwnedBy
-mod Passing
 mod Plainly
 mod Reaching
 mod Referring

@@ -1,4 +1,4 @@
--- The next name and the high page bound the persistent objects.
+-- The next name and the high page bound what stands.
 use Rattle.std.proofs.Common.{◌≡◌, ◌<◌, ◌≤◌, ◌+◌, ◌∙◌, ◌⊎◌, ◌||◌, ◌&&◌, ◌==◌, inl, inr, ℕ, zero, suc, Bool, true, false, cond, nat_le, nat_lt, List, Option, Some, None, is_some, refl, sym, ap, arith}
 use Rattle.std.specs.Prelude.{slice_index, slice_index_or, replicate}
 use Rattle.std.specs.FinMap.{get}
@@ -29,7 +29,7 @@ lt_of : (m n : ℕ) → nat_lt m n ≡ true → m < n
 lt_of m n is = grind (arith, nat_tests)
 
 -- a reference in a store of so many pages leads below them
-refers_below : (base pages w : ℕ) → is_memory_reference base pages w ≡ true → (w ≡ 0) ⊎ (page_in base w < pages)
+pub refers_below : (base pages w : ℕ) → is_memory_reference base pages w ≡ true → (w ≡ 0) ⊎ (page_in base w < pages)
 unfolding is_memory_reference
 refers_below base pages w is = elim (or_cases (w == 0) (is_address base w && ((nat_le 3 (page_in base w) && nat_lt (page_in base w) pages) && nat_le 2 (word_in base w))) is) [
   | inl nil ↦ inl (eqb-true w 0 nil)
@@ -90,31 +90,40 @@ module _ (catalog : List Fields) (base pages : ℕ) (st : State) (e : Entry) (p 
       let old = below catalog base st e p chron pass.takes a n has off in
       off_keeps base st.book st.owner a (sym (owner_same catalog base st e p chron pass.takes (page_in base a) old.0 after) ∙ free) ∙ old.1
 
+-- every object after an entry has a name below its next name
+names_by : (catalog : List Fields) (base pages : ℕ) (st : State) (found left : Part) (tag mutator next_name high_page : ℕ) (written : Images) (pass : Option Pass)
+    → let e : Entry = record { tag = tag; mutator = mutator; next_name = next_name; high_page = high_page; found = found; left = left; written = written; pass = pass } in
+    IsBounded catalog base st → Writes catalog base pages st e → MeetsPass catalog base pages st e pass
+    → (a n : ℕ) → get (next_book base st.book written pass) a ≡ Some n → n < next_name
+names_by catalog base pages st found left tag mutator next_name high_page written None bounded writes meets a n has =
+    let rise = writes.names_rise in let low = bounded.names a n has in
+    omega (arith, rise, low)
+names_by catalog base pages st found left tag mutator next_name high_page written (Some p) bounded writes meets a n has = meets.names a n has
+
 after_by : (catalog : List Fields) (base pages : ℕ) (st : State) (found left : Part) (tag mutator next_name high_page : ℕ) (written : Images) (pass : Option Pass)
     → let e : Entry = record { tag = tag; mutator = mutator; next_name = next_name; high_page = high_page; found = found; left = left; written = written; pass = pass } in
-    Chronicled catalog base st → IsBounded catalog base st → Writes catalog base pages st e → MeetsPass catalog base pages st e pass
-    → (a n : ℕ) → get (persistent_book base (step base st e)) a ≡ Some n → (n < next_name) × After base st written a n
-after_by catalog base pages st found left tag mutator next_name high_page written None chron bounded writes meets a n has =
-    let rise = writes.names_rise in let low = bounded.names a n has in
-    (omega (arith, rise, low), by_page base st written a n (λ none. has))
-after_by catalog base pages st found left tag mutator next_name high_page written (Some p) chron bounded writes meets a n has =
+    Chronicled catalog base st → MeetsPass catalog base pages st e pass
+    → (a n : ℕ) → get (persistent_book base (step base st e)) a ≡ Some n → After base st written a n
+after_by catalog base pages st found left tag mutator next_name high_page written None chron meets a n has =
+    by_page base st written a n (λ none. has)
+after_by catalog base pages st found left tag mutator next_name high_page written (Some p) chron meets a n has =
     let e : Entry = record { tag = tag; mutator = mutator; next_name = next_name; high_page = high_page; found = found; left = left; written = written; pass = Some p } in
     let old = off_cases base (step base st e).book (step base st e).owner a n has in
-    (meets.names a n old.1, by_page base st written a n (pass_after catalog base pages st e p chron meets a n old.1 old.0))
+    by_page base st written a n (pass_after catalog base pages st e p chron meets a n old.1 old.0)
 
 -- an entry that may follow keeps the bounds
 pub bounds_keep : (catalog : List Fields) (base pages : ℕ) (st : State) (e : Entry) → Chronicled catalog base st → IsBounded catalog base st → IsLawful catalog base pages st e
     → IsBounded catalog base (step base st e)
 unfolding After
 bounds_keep catalog base pages st e chron bounded lawful = record {
-  names = λ a n has. (after a n has).0;
-  pages = λ a n has. page_low a n (after a n has).1;
-  references = λ a n s k sheet has on starts is. refers a n s k sheet on starts is (after a n has).1;
+  names = names_by catalog base pages st e.found e.left e.tag e.mutator e.next_name e.high_page e.written e.pass bounded lawful.writes lawful.by_pass;
+  pages = λ a n has. page_low a n (after a n has);
+  references = λ a n s k sheet has on starts is. refers a n s k sheet on starts is (after a n has);
 }
   where
     after : (a n : ℕ) → get (persistent_book base (step base st e)) a ≡ Some n
-        → (n < e.next_name) × ((is_some (get e.written (page_in base a)) ≡ true) ⊎ ((get e.written (page_in base a) ≡ None) × (get (persistent_book base st) a ≡ Some n)))
-    after = after_by catalog base pages st e.found e.left e.tag e.mutator e.next_name e.high_page e.written e.pass chron bounded lawful.writes lawful.by_pass
+        → (is_some (get e.written (page_in base a)) ≡ true) ⊎ ((get e.written (page_in base a) ≡ None) × (get (persistent_book base st) a ≡ Some n))
+    after = after_by catalog base pages st e.found e.left e.tag e.mutator e.next_name e.high_page e.written e.pass chron lawful.by_pass
 
     page_low : (a n : ℕ) → (is_some (get e.written (page_in base a)) ≡ true) ⊎ ((get e.written (page_in base a) ≡ None) × (get (persistent_book base st) a ≡ Some n)) → page_in base a < e.high_page
     page_low a n (inl there) = (let x = some_of (get e.written (page_in base a)) there in (lawful.writes.form (page_in base a) x.0 x.1).1)

@@ -11,9 +11,9 @@ use Rattle.pm3_history.specs.Opens.{Origin, Opens}
 use Rattle.pm3_history.specs.Persistent.{persistent_book}
 use Rattle.pm3_history.specs.State.{State, now}
 
--- the persistent objects have names below the next name, and they and all to which their pages refer lie below the high page
+-- all objects have names below the next name, and the persistent ones and all to which their pages refer lie below the high page
 pub record IsBounded (catalog : List Fields) (base : ℕ) (st : State) : Type 0 where
-  pub names : (a n : ℕ) → get (persistent_book base st) a ≡ Some n → n < st.next_name
+  pub names : (a n : ℕ) → get st.book a ≡ Some n → n < st.next_name
   pub pages : (a n : ℕ) → get (persistent_book base st) a ≡ Some n → page_in base a < st.high_page
   pub references : (a n s k : ℕ) (sheet : Sheet) → get (persistent_book base st) a ≡ Some n → get st.pages (page_in base a) ≡ Some sheet → is_start sheet s ≡ true
       → IsReferenceIn (map_at catalog sheet s) (tail_at sheet s) k

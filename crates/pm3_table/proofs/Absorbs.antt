@@ -178,10 +178,10 @@ module _ {S : Type 0} (good : List Done → ℕ → S → Type 0) (count : S →
         heard_out = λ i is j live. let o : i ≢ n = (λ e. away turn (is ∙ ap (λ (m : ℕ). m + 1) e)) in let a = most (crew i).faults (r.heard_out i is) j live in let b = more i o in omega (arith, a, b);
       }
 
-pub pages_absorb : {S : Type 0} (empty : S) (spans : S → List ℕ) (pages frontier : ℕ) (refers : Done → ℕ → Bool) (top : ℕ) (used : ℕ → Bool) (mark space holder : ℕ → ℕ) (history : List Done) (homes : List (maybe.Option S)) (crew : ℕ → PageView)
-    → PagesRule empty spans pages frontier refers top used mark space holder history homes crew → (k n : ℕ) → k ≢ n → (crew k).live ≡ true → (crew n).live ≡ true → (x : PageView) → x.live ≡ false
-    → PagesRule empty spans pages frontier refers top used mark space holder history homes (put (put crew k (page_with (crew k).holds (crew k).spans ((crew k).steady ++ (crew n).steady) ((crew k).pages ++ (crew n).pages))) n x)
-pages_absorb empty spans pages frontier refers top used mark space holder history homes crew r k n apart alive other x dead =
+pub pages_absorb : {S : Type 0} (empty : S) (spans : S → List ℕ) (pages frontier : ℕ) (refers : Done → ℕ → Bool) (keeps : ℕ → Done → ℕ → Bool) (top : ℕ) (used : ℕ → Bool) (mark space holder : ℕ → ℕ) (history : List Done) (homes : List (maybe.Option S)) (crew : ℕ → PageView)
+    → PagesRule empty spans pages frontier refers keeps top used mark space holder history homes crew → (k n : ℕ) → k ≢ n → (crew k).live ≡ true → (crew n).live ≡ true → (x : PageView) → x.live ≡ false
+    → PagesRule empty spans pages frontier refers keeps top used mark space holder history homes (put (put crew k (page_with (crew k).holds (crew k).spans ((crew k).steady ++ (crew n).steady) ((crew k).pages ++ (crew n).pages))) n x)
+pages_absorb empty spans pages frontier refers keeps top used mark space holder history homes crew r k n apart alive other x dead =
     let w : PageView = page_with (crew k).holds (crew k).spans ((crew k).steady ++ (crew n).steady) ((crew k).pages ++ (crew n).pages) in
     let c : ℕ → PageView = put (put crew k w) n x in
     let from : (j p : ℕ) → (c j).live ≡ true → is_in p (c j).pages ≡ true → (i : ℕ) × ((crew i).live ≡ true) × (is_in p (crew i).pages ≡ true) × ((i ≡ j) ⊎ ((i ≡ n) × (j ≡ k))) × (j ≢ n) = λ j p.
@@ -209,6 +209,7 @@ pages_absorb empty spans pages frontier refers top used mark space holder histor
           (λ e. ⊎_elim (λ d. absurd (g.4 (sym d ∙ (sym same ∙ e.0)))) (λ d. e.1 ∙ sym d.1) g.3) f.3;
       named = r.named;
       written = r.written;
+      kept = r.kept;
     }
 
 pub names_absorb : (makes : Done → ℕ → Bool) (first top : ℕ) (history : List Done) (crew : ℕ → NameView) → NamesRule makes first top history crew → (k n : ℕ) → k ≢ n → (crew k).live ≡ true → (crew n).live ≡ true → (x : NameView) → x.live ≡ false

@@ -11,7 +11,7 @@ use Rattle.atomic_table.specs.Table.{Act, keeps, takes, gives, chain, Valid, hom
 use Rattle.atomic_table.proofs.Lists.{set_here, set_else}
 use Rattle.pm3_core.specs.Machine.{put}
 use Rattle.pm3_table.specs.declared.view.Hold.{Hold}
-use Rattle.pm3_table.specs.declared.view.Hold.TheVariants.{Took, Gave}
+use Rattle.pm3_table.specs.declared.view.Hold.TheVariants.{Gave}
 use Rattle.pm3_table.specs.Counts.{Distinct}
 use Rattle.pm3_table.specs.Holds.{holds_of, is_in}
 use Rattle.pm3_table.specs.Carried.{slots_in, AreEmpty, dropped, Carries}
@@ -142,16 +142,6 @@ module _ {V : Type 0} where
       chosen : (b : Bool) → is_in x.0 (slots_in (dropped u xs)) ≡ false → Distinct (slots_in (dropped u xs)) → Distinct (slots_in (if b then xs else (x ∷ dropped u xs)))
       chosen true n r = d.1
       chosen false n r = (n, r)
-
-  -- a unit that was not held is taken, and one that is held is given back
-  pub carries_took : (holds : List Hold) (c : List (ℕ × Option V)) (u : ℕ) → holds_of holds u ≡ false → Carries holds c → Carries (Took u ∷ holds) ((u, None) ∷ c)
-  carries_took holds c u bare k = record {
-    same = λ w. put_cases (λ b. ((u == w) || is_in w (slots_in c)) ≡ b) (holds_of holds) u true w
-        (λ e. grind (arith, nat_tests, e))
-        (λ o. let s = k.same w in grind (arith, nat_tests, o, s));
-    once = (k.same u ∙ bare, k.once);
-    empty = (refl, k.empty);
-  }
 
   pub carries_gave : (holds : List Hold) (c : List (ℕ × Option V)) (u : ℕ) → holds_of holds u ≡ true → Carries holds c → Carries (Gave u ∷ holds) (dropped u c)
   carries_gave holds c u held k = record {

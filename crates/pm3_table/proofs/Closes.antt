@@ -14,7 +14,7 @@ use Rattle.pm3_table.specs.Closing.{IsClosed}
 use Rattle.pm3_table.specs.Crew.{Lives, total}
 use Rattle.pm3_table.specs.Counts.{CountsRule, counts, counted_under}
 use Rattle.pm3_table.specs.Draws.{DrawsRule, DrawView, drew}
-use Rattle.pm3_table.specs.Entries.{makes}
+use Rattle.pm3_table.specs.Entries.{makes, keeps_in}
 use Rattle.pm3_table.specs.Histories.{by}
 use Rattle.pm3_table.specs.Holds.{holds_of, is_in}
 use Rattle.pm3_table.specs.Lost.{LostRule}
@@ -93,7 +93,7 @@ module _ {V : Type 0} (stands : Told → List Done → List Done → ℕ → V �
           words = encode_same told.pages r.machine.word r.holder r.machine.mark r.space r.counter s.words r.words i;
           rows = unchanged s.views r.crew r.seated id v w l live refl row_view (RowsRule told.pages (moves_of r.history) r.machine) refl r.rows;
           units = unchanged s.views r.crew r.seated id v w l live refl unit_view (UnitsRule (Good stands told r.lost) (counted_in counted) (turn_unit told.pages) (names told) r.holder r.history s.homes) refl r.units;
-          paged = unchanged s.views r.crew r.seated id v w l live refl page_view (PagesRule None (spans_in spans) told.pages told.frontier (names_page told) (r.counter 0) r.used r.machine.mark r.space r.holder r.history s.homes) refl r.paged;
+          paged = unchanged s.views r.crew r.seated id v w l live refl page_view (PagesRule None (spans_in spans) told.pages told.frontier (names_page told) keeps_in (r.counter 0) r.used r.machine.mark r.space r.holder r.history s.homes) refl r.paged;
           draws = unchanged s.views r.crew r.seated id v w l live refl draw_view (DrawsRule (limit told) (first told) r.counter) refl r.draws;
           named = unchanged s.views r.crew r.seated id v w l live refl name_view (NamesRule makes told.next_name (r.counter 1) r.history) refl r.named;
           counts = unchanged s.views r.crew r.seated id v w l live refl count_view (CountsRule (min (r.counter 2) 32) r.history) refl r.counts;

@@ -10,7 +10,7 @@ use Rattle.pm3_history.specs.Entry.{Done}
 use Rattle.pm3_table.specs.declared.view.Told.{Told}
 use Rattle.pm3_table.specs.declared.view.View.{View}
 use Rattle.pm3_table.specs.Crew.{Lives}
-use Rattle.pm3_table.specs.Entries.{makes, writes}
+use Rattle.pm3_table.specs.Entries.{makes, writes, keeps_in}
 use Rattle.pm3_table.specs.Histories.{some_has}
 use Rattle.pm3_table.specs.Holds.{is_in}
 use Rattle.pm3_table.specs.Names.{NamesRule}
@@ -86,7 +86,7 @@ module _ {V : Type 0} (stands : Told → List Done → List Done → ℕ → V �
     pub draw_step : (words' : List ℕ) (counter' : ℕ → ℕ) (w : View) → (live : w.live ≡ true) → (row : w.row ≡ v.row)
         → row_view w ≡ row_view v → unit_view w ≡ unit_view v → lost_view w ≡ lost_view v → last_view w ≡ last_view v
         → Encodes told.pages r.machine.word r.holder r.machine.mark r.space counter' words'
-        → PagesRule None (spans_in spans) told.pages told.frontier (names_page told) (counter' 0) r.used r.machine.mark r.space r.holder r.history s.homes (λ k. page_view (put r.crew v.row w k))
+        → PagesRule None (spans_in spans) told.pages told.frontier (names_page told) keeps_in (counter' 0) r.used r.machine.mark r.space r.holder r.history s.homes (λ k. page_view (put r.crew v.row w k))
         → DrawsRule (limit told) (first told) counter' (λ k. draw_view (put r.crew v.row w k))
         → NamesRule makes told.next_name (counter' 1) r.history (λ k. name_view (put r.crew v.row w k))
         → CountsRule (min (counter' 2) 32) r.history (λ k. count_view (put r.crew v.row w k))
@@ -116,9 +116,9 @@ module _ {V : Type 0} (stands : Told → List Done → List Done → ℕ → V �
 
     -- the parts that a step leaves
     same_pages : (top' : ℕ) (w : View) → w.live ≡ true → w.row ≡ v.row → page_view w ≡ page_view v → r.counter 0 ≤ top'
-        → PagesRule None (spans_in spans) told.pages told.frontier (names_page told) top' r.used r.machine.mark r.space r.holder r.history s.homes (λ k. page_view (put r.crew v.row w k))
-    same_pages top' w live row same up = unchanged s.views r.crew r.seated id v w l live row page_view (PagesRule None (spans_in spans) told.pages told.frontier (names_page told) top' r.used r.machine.mark r.space r.holder r.history s.homes) same
-        (pages_higher None (spans_in spans) told.pages told.frontier (names_page told) (r.counter 0) r.used r.machine.mark r.space r.holder r.history s.homes (λ k. page_view (r.crew k)) r.paged top' up)
+        → PagesRule None (spans_in spans) told.pages told.frontier (names_page told) keeps_in top' r.used r.machine.mark r.space r.holder r.history s.homes (λ k. page_view (put r.crew v.row w k))
+    same_pages top' w live row same up = unchanged s.views r.crew r.seated id v w l live row page_view (PagesRule None (spans_in spans) told.pages told.frontier (names_page told) keeps_in top' r.used r.machine.mark r.space r.holder r.history s.homes) same
+        (pages_higher None (spans_in spans) told.pages told.frontier (names_page told) keeps_in (r.counter 0) r.used r.machine.mark r.space r.holder r.history s.homes (λ k. page_view (r.crew k)) r.paged top' up)
 
     same_names : (top' : ℕ) (w : View) → w.live ≡ true → w.row ≡ v.row → name_view w ≡ name_view v → r.counter 1 ≤ top'
         → NamesRule makes told.next_name top' r.history (λ k. name_view (put r.crew v.row w k))
@@ -197,10 +197,10 @@ module _ {V : Type 0} (stands : Told → List Done → List Done → ℕ → V �
         let plain : r.space p ≡ 0 = sym (space_found stands spans counted told s r id v l p low) ∙ bare in
         draw_step (set s.words (unit_at p) (get_or s.words (unit_at p) 0)) r.counter w l.1 refl refl refl refl refl
         (encode_same told.pages r.machine.word r.holder r.machine.mark r.space r.counter s.words r.words (unit_at p))
-        (at_view s.views r.crew r.seated id v w l l.1 refl page_view (PagesRule None (spans_in spans) told.pages told.frontier (names_page told) (r.counter 0) r.used r.machine.mark r.space r.holder r.history s.homes)
+        (at_view s.views r.crew r.seated id v w l l.1 refl page_view (PagesRule None (spans_in spans) told.pages told.frontier (names_page told) keeps_in (r.counter 0) r.used r.machine.mark r.space r.holder r.history s.homes)
         (page_with (r.crew v.row).holds (r.crew v.row).spans (p ∷ (r.crew v.row).steady) (r.crew v.row).pages)
         (λ i. record { live = sym l.1 i; holds = (here i).holds; spans = (here i).spans; steady = p ∷ (here i).steady; pages = (here i).pages })
-        (pages_look None (spans_in spans) told.pages told.frontier (names_page told) (r.counter 0) r.used r.machine.mark r.space r.holder r.history s.homes (λ k. page_view (r.crew k)) r.paged v.row (here_lives stands spans counted told s r id v l) p
+        (pages_look None (spans_in spans) told.pages told.frontier (names_page told) keeps_in (r.counter 0) r.used r.machine.mark r.space r.holder r.history s.homes (λ k. page_view (r.crew k)) r.paged v.row (here_lives stands spans counted told s r id v l) p
         (used_is stands spans counted told frame alike s r id v l p knows) plain))
         (unchanged s.views r.crew r.seated id v w l l.1 refl draw_view (DrawsRule (limit told) (first told) r.counter) refl r.draws)
         (same_names (r.counter 1) w l.1 refl refl (omega arith))
@@ -302,10 +302,10 @@ module _ {V : Type 0} (stands : Told → List Done → List Done → ℕ → V �
         let counter' : ℕ → ℕ = put r.counter 0 (r.counter 0 + 1) in
         draw_step (set s.words (counter_at told.pages 0) (r.counter 0 + 1)) counter' w l.1 refl refl refl refl refl
         (encode_counter told.pages r.machine.word r.holder r.machine.mark r.space r.counter s.words r.words 0 (r.counter 0 + 1) (omega arith))
-        (at_view s.views r.crew r.seated id v w l l.1 refl page_view (PagesRule None (spans_in spans) told.pages told.frontier (names_page told) (r.counter 0 + 1) r.used r.machine.mark r.space r.holder r.history s.homes)
+        (at_view s.views r.crew r.seated id v w l l.1 refl page_view (PagesRule None (spans_in spans) told.pages told.frontier (names_page told) keeps_in (r.counter 0 + 1) r.used r.machine.mark r.space r.holder r.history s.homes)
         (page_with (r.crew v.row).holds (r.crew v.row).spans (r.crew v.row).steady (r.counter 0 ∷ (r.crew v.row).pages))
         (λ i. record { live = sym l.1 i; holds = (here i).holds; spans = (here i).spans; steady = (here i).steady; pages = r.counter 0 ∷ (here i).pages })
-        (pages_draw None (spans_in spans) told.pages told.frontier (names_page told) (r.counter 0) r.used r.machine.mark r.space r.holder r.history s.homes (λ k. page_view (r.crew k)) r.paged v.row (here_lives stands spans counted told s r id v l)
+        (pages_draw None (spans_in spans) told.pages told.frontier (names_page told) keeps_in (r.counter 0) r.used r.machine.mark r.space r.holder r.history s.homes (λ k. page_view (r.crew k)) r.paged v.row (here_lives stands spans counted told s r id v l)
         (from_first (limit told) (first told) r.counter (λ k. draw_view (r.crew k)) r.draws 0 (omega arith)) below))
         (sums_of 0 w below (page_more v w l.1 l.1 refl) (page_others v w l.1 l.1 refl refl) l.1 refl drawing refl refl)
         (same_names (r.counter 1) w l.1 refl refl (omega arith))

@@ -110,10 +110,10 @@ units_enter good count turn names holder history homes crew r k n alive dead =
           (λ _ live. subst (λ (v : UnitView). (crew j).faults ≤ v.faults) (sym i_is) (r.heard_out i is j live));
     }
 
-pub pages_enter : {S : Type 0} (empty : S) (spans : S → List ℕ) (pages frontier : ℕ) (refers : Done → ℕ → Bool) (top : ℕ) (used : ℕ → Bool) (mark space holder : ℕ → ℕ) (history : List Done) (homes : List (maybe.Option S)) (crew : ℕ → PageView)
-    → PagesRule empty spans pages frontier refers top used mark space holder history homes crew → (k n : ℕ) → (crew k).live ≡ true
-    → PagesRule empty spans pages frontier refers top used mark space holder history homes (put crew n (page_with [] [] (crew k).steady []))
-pages_enter empty spans pages frontier refers top used mark space holder history homes crew r k n alive =
+pub pages_enter : {S : Type 0} (empty : S) (spans : S → List ℕ) (pages frontier : ℕ) (refers : Done → ℕ → Bool) (keeps : ℕ → Done → ℕ → Bool) (top : ℕ) (used : ℕ → Bool) (mark space holder : ℕ → ℕ) (history : List Done) (homes : List (maybe.Option S)) (crew : ℕ → PageView)
+    → PagesRule empty spans pages frontier refers keeps top used mark space holder history homes crew → (k n : ℕ) → (crew k).live ≡ true
+    → PagesRule empty spans pages frontier refers keeps top used mark space holder history homes (put crew n (page_with [] [] (crew k).steady []))
+pages_enter empty spans pages frontier refers keeps top used mark space holder history homes crew r k n alive =
     let w : PageView = page_with [] [] (crew k).steady [] in record {
       opened = r.opened;
       low = r.low;
@@ -130,6 +130,7 @@ pages_enter empty spans pages frontier refers top used mark space holder history
           (λ _ li. put_cases (λ v. v.live ≡ true → is_in p (crew i).pages ≡ true → is_in p v.pages ≡ true → i ≡ j) crew n w j (λ _ _ _ e. absurd (cc)) (λ _ lj. r.apart i j p li lj));
       named = r.named;
       written = r.written;
+      kept = r.kept;
     }
 
 pub names_enter : (makes : Done → ℕ → Bool) (first top : ℕ) (history : List Done) (crew : ℕ → NameView) → NamesRule makes first top history crew → (n : ℕ) → NamesRule makes first top history (put crew n (name_with []))

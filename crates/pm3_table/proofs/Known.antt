@@ -1,10 +1,14 @@
 -- What a view knows of pages that are in a space that it holds.
-use Rattle.std.proofs.Common.{◌≡◌, ℕ, zero, suc, ◌+◌, ◌<◌, ◌==◌, ◌&&◌, ◌||◌, Bool, true, false, List, refl, ◌∙◌, subst, arith}
+use Rattle.std.proofs.Common.{◌≡◌, ℕ, zero, suc, ◌+◌, ◌<◌, ◌==◌, ◌&&◌, ◌||◌, Bool, true, false, List, [], ◌∷◌, Option, None, Some, refl, ◌∙◌, subst, arith}
 use mathlib.Core.Logic.{dite}
 use native.Mathlib.Decide.{ℕ_discrete}
+use Rattle.std.specs.FinMap.{contains_key}
+use Rattle.pm3_types.specs.Fields.{Fields}
+use Rattle.pm3_history.specs.Entry.{Done, Pass}
 use Rattle.pm3_table.specs.declared.view.Deed.{Deed}
 use Rattle.pm3_table.specs.declared.view.Told.{Told}
 use Rattle.pm3_table.specs.declared.view.View.{View}
+use Rattle.pm3_table.specs.Entries.{images_refer, keeps_in, kept_by, pass_refers, refers}
 use Rattle.pm3_table.specs.Histories.{some_has}
 use Rattle.pm3_table.specs.Holds.{holds_of, spans_of}
 use Rattle.pm3_table.specs.Telling.{names_page, is_steady, HasInSpace, in_some_space, knows_used}
@@ -64,3 +68,22 @@ unfolding knows_used
 used_seen told v p is =
     or_true (is_steady told v p) (in_some_space told v 32 p || some_has (names_page told) v.seen p)
     (or_true (in_some_space told v 32 p) (some_has (names_page told) v.seen p) is)
+
+either : (a b c d : Bool) → (a ≡ true → c ≡ true) → (b ≡ true → d ≡ true) → (a || b) ≡ true → (c || d) ≡ true
+either true b c d f g is = true_or c d (f refl)
+either false b c d f g is = or_true c d (g is)
+
+right_of : (a b : Bool) → (a && b) ≡ true → b ≡ true
+right_of true b is = is
+right_of false b is = absurd (cc)
+
+kept_refers : (catalog : List Fields) (j p : ℕ) (pass : Option Pass) → kept_by j pass p ≡ true → pass_refers catalog pass p ≡ true
+kept_refers catalog j p None is = absurd (cc)
+kept_refers catalog j p (Some x) is = true_or (contains_key x.after p) _ (right_of (x.space == j) (contains_key x.after p) is)
+
+-- a page that a pass leaves in a space is named by its images
+pub kept_named : (told : Told) (j p : ℕ) (h : List Done) → some_has (keeps_in j) h p ≡ true → some_has (names_page told) h p ≡ true
+kept_named told j p [] is = is
+kept_named told j p (e ∷ es) is =
+    either (keeps_in j e p) (some_has (keeps_in j) es p) (refers told.opening.catalog e p) (some_has (names_page told) es p)
+    (λ kept. or_true (images_refer told.opening.catalog e.written p) (pass_refers told.opening.catalog e.pass p) (kept_refers told.opening.catalog j p e.pass kept)) (kept_named told j p es) is

@@ -31,5 +31,4 @@ pub mod SeatCalls
 pub mod LawsKept
 pub mod Closes
 pub mod Known
-pub mod ReadsKept
 pub mod Gathered

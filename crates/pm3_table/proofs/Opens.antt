@@ -157,6 +157,7 @@ module _ {V : Type 0} (stands : Told → List Done → List Done → ℕ → V �
           apart = λ i j p li lj _ _. only i li ∙ sym (only j lj);
           named = λ p is. absurd (cc);
           written = λ p is. absurd (cc);
+          kept = λ j p is. absurd (cc);
         };
         draws = record {
           full = λ k live c is. absurd (not_dead ⊥ (ap (λ (y : View). is_in c y.filled) (sym (ap crew (only k live) ∙ here)) ∙ is) refl);

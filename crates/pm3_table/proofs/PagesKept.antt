@@ -47,11 +47,11 @@ pub in_without : (n q : ℕ) (xs : List ℕ) → is_in n (without_number q xs) �
 in_without n q [] h = absurd (cc)
 in_without n q (x ∷ xs) h = chosen_out n q x xs (x == q) refl (in_without n q xs) h
 
-module _ {S : Type 0} (empty : S) (spans : S → List ℕ) (pages frontier : ℕ) (refers : Done → ℕ → Bool) where
+module _ {S : Type 0} (empty : S) (spans : S → List ℕ) (pages frontier : ℕ) (refers : Done → ℕ → Bool) (keeps : ℕ → Done → ℕ → Bool) where
   module _ (top : ℕ) (used : ℕ → Bool) (mark space holder : ℕ → ℕ) (history : List Done) (homes : List (Option S)) (crew : ℕ → PageView)
-      (r : PagesRule empty spans pages frontier refers top used mark space holder history homes crew) where
+      (r : PagesRule empty spans pages frontier refers keeps top used mark space holder history homes crew) where
     abbrev Rule : ℕ → (ℕ → Bool) → (ℕ → ℕ) → (ℕ → ℕ) → (ℕ → ℕ) → List Done → List (Option S) → (ℕ → PageView) → Type 0
-    Rule = PagesRule empty spans pages frontier refers
+    Rule = PagesRule empty spans pages frontier refers keeps
 
     -- a page is marked by who holds its space, or unmarked
     pub marks_part : (q h : ℕ) → (h ≢ 0 → (space q ≢ 0) × (holder (space_unit pages (space q - 1)) ≡ h)) → Rule top used (put mark q h) space holder history homes crew
@@ -70,6 +70,7 @@ module _ {S : Type 0} (empty : S) (spans : S → List ℕ) (pages frontier : ℕ
       apart = r.apart;
       named = r.named;
       written = r.written;
+      kept = r.kept;
     }
 
     -- a persistent page is used and unmarked
@@ -99,6 +100,7 @@ module _ {S : Type 0} (empty : S) (spans : S → List ℕ) (pages frontier : ℕ
       apart = r.apart;
       named = r.named;
       written = r.written;
+      kept = r.kept;
     }
 
     module _ (k : ℕ) (alive : (crew k).live ≡ true) where
@@ -144,17 +146,19 @@ module _ {S : Type 0} (empty : S) (spans : S → List ℕ) (pages frontier : ℕ
             apart = same_apart w refl;
             named = r.named;
             written = r.written;
+            kept = r.kept;
           }
 
-      -- k gives the unit u back with x, and commits come that name used pages and write persistent ones alone
+      -- k gives the unit u back with x, and commits come that name used pages, write persistent ones alone and leave to a space its own
       pub pages_give : (u : ℕ) (x : S) (more : List Done) → holder u ≡ k + 1 → u < length homes
           → ((j : ℕ) → j < 32 → space_unit pages j ≡ u → (p : ℕ) → is_in p (spans x) ≡ (space p == j + 1))
           → ((p : ℕ) → mark p ≢ 0 → space_unit pages (space p - 1) ≢ u)
           → ((p : ℕ) → some_has refers more p ≡ true → used p ≡ true)
           → ((p : ℕ) → some_has writes more p ≡ true → (used p ≡ true) × (space p ≡ 0))
+          → ((j p : ℕ) → some_has (keeps j) more p ≡ true → space p ≡ j + 1)
           → Rule top used mark space (put holder u 0) (history ++ more) (set homes u (some x))
           (put crew k (page_with (Gave u ∷ (crew k).holds) (crew k).spans (crew k).steady (crew k).pages))
-      pages_give u x more mine inside fits unmarked uses persists =
+      pages_give u x more mine inside fits unmarked uses persists keeps_own =
           let w : PageView = page_with (Gave u ∷ (crew k).holds) (crew k).spans (crew k).steady (crew k).pages in
           let taken : holder u ≢ 0 = λ z. omega (arith, z, mine) in record {
             opened = r.opened;
@@ -178,6 +182,7 @@ module _ {S : Type 0} (empty : S) (spans : S → List ℕ) (pages frontier : ℕ
             apart = same_apart w refl;
             named = λ p is. ⊎_elim (r.named p) (uses p) (has_one refers history more p is);
             written = λ p is. ⊎_elim (r.written p) (persists p) (has_one writes history more p is);
+            kept = λ j p is. ⊎_elim (r.kept j p) (λ new. inl (keeps_own j p new)) (has_one (keeps j) history more p is);
           }
 
       -- k draws the page at the counter
@@ -216,6 +221,7 @@ module _ {S : Type 0} (empty : S) (spans : S → List ℕ) (pages frontier : ℕ
                 (λ oj b. r.apart i j p (was_live w i li) (was_live w j lj) a b));
             named = r.named;
             written = r.written;
+            kept = r.kept;
           }
 
       -- k knows one more page to be persistent
@@ -240,4 +246,5 @@ module _ {S : Type 0} (empty : S) (spans : S → List ℕ) (pages frontier : ℕ
             apart = same_apart w refl;
             named = r.named;
             written = r.written;
+            kept = r.kept;
           }

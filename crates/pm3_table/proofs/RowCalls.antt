@@ -15,7 +15,7 @@ use Rattle.pm3_table.specs.declared.view.View.{View}
 use Rattle.pm3_table.specs.Deeds.{word_of, marks_of}
 use Rattle.pm3_table.specs.Holds.{holds_of}
 use Rattle.pm3_table.specs.Ops.{did, refused, knew, settled_in, settled_held}
-use Rattle.pm3_table.specs.Settles.{MaySettle, unmark_log}
+use Rattle.pm3_table.specs.Settles.{MaySettle, unmark_log, MaySettleIn}
 use Rattle.pm3_table.specs.Telling.{names, HasInSpace, is_steady, knows_used, mark_by}
 use Rattle.pm3_table.specs.Words.{unit_at, unit_word, mark_in, space_in, turn_unit, space_unit}
 use Rattle.pm3_table.specs.Rule.{Ruled}
@@ -24,7 +24,7 @@ use Rattle.pm3_table.proofs.RowSteps.{stores, reads, own_word, validates, refuse
 use Rattle.pm3_table.proofs.SeenLawful.{seen_lawful}
 use Rattle.pm3_table.proofs.DrawSteps.{looks, stays_same}
 use Rattle.pm3_table.proofs.UnitSteps.{steady_is}
-use Rattle.pm3_table.proofs.Settling.{settles_in, settles_held, not_held, at_home}
+use Rattle.pm3_table.proofs.Settling.{settles_in, settles_held, not_held, at_home, may_settle}
 
 zero_test : (x : ℕ) → x ≡ 0 → (x == 0) ≡ true
 zero_test x e = grind (arith, nat_tests, e)
@@ -119,14 +119,14 @@ module _ {V : Type 0} (stands : Told → List Done → List Done → ℕ → V �
           (ap (λ (b : Bool). ((if b then knew me.0 p else me.0), me.1)) (sym (zero_not (space_in n) taken)), of_space, plain, own, alone),
         )))
 
-    pub settle_in_call : (at aim_row aim w j q : ℕ) → at ≡ unit_at q → aim_row ≡ space_unit told.pages j → aim ≡ q → w ≡ unit_word 0 0 (j + 1) → MaySettle told me.0 q → j < 32 → holds_of me.0.holds (space_unit told.pages j) ≡ true
+    pub settle_in_call : (at aim_row aim w j q : ℕ) → at ≡ unit_at q → aim_row ≡ space_unit told.pages j → aim ≡ q → w ≡ unit_word 0 0 (j + 1) → MaySettleIn told me.0 j q → j < 32 → holds_of me.0.holds (space_unit told.pages j) ≡ true
         → Allows Rule slots id me at (λ _. w) (λ _. play.settles_in aim aim_row (step slots at w 0 none) me w)
     settle_in_call at aim_row aim w j q is aimed_row aimed word may low holds = rw (is, aimed_row, aimed, word) (λ s r deep seat fits. (
       settled_in me.0 q (space_unit told.pages j) (unmark_log me.0.log q),
       keeps,
       tt,
-      settles_in stands spans counted told frame s r id me.0 (seat, live) q may j low holds,
-      (refl, not_held stands spans counted told frame s r id me.0 (seat, live) q may),
+      settles_in stands spans counted told frame s r id me.0 (seat, live) q (may_settle told me.0 j q may) j may low holds,
+      (refl, not_held stands spans counted told frame s r id me.0 (seat, live) q (may_settle told me.0 j q may)),
     ))
 
     pub settle_held_call : (at aim w q : ℕ) → at ≡ unit_at q → aim ≡ q → w ≡ unit_word (me.0.row + 1) 0 0 → MaySettle told me.0 q

@@ -18,7 +18,7 @@ use Rattle.pm3_table.specs.declared.view.View.{View}
 use Rattle.pm3_table.specs.declared.view.Refusal.{Refusal}
 use Rattle.pm3_table.specs.Crew.{Lives, Seated}
 use Rattle.pm3_table.specs.Deeds.{word_of, marks_of}
-use Rattle.pm3_table.specs.Entries.{makes}
+use Rattle.pm3_table.specs.Entries.{makes, keeps_in}
 use Rattle.pm3_table.specs.Holds.{holds_of, spans_of}
 use Rattle.pm3_table.specs.Ops.{did, refused}
 use Rattle.pm3_table.specs.Telling.{limit, first, names, names_page, Good, spans_in, counted_in, mark_by, HasInSpace}
@@ -87,7 +87,7 @@ module _ {V : Type 0} (stands : Told → List Done → List Done → ℕ → V �
     pub row_step : (m' : Machine) (words' : List ℕ) (ds : List Deed) (rs : List Refusal)
         → RowsRule told.pages (moves_of r.history) m' (put (λ k. row_view (r.crew k)) v.row (row_with ds))
         → Encodes told.pages m'.word r.holder m'.mark r.space r.counter words'
-        → PagesRule None (spans_in spans) told.pages told.frontier (names_page told) (r.counter 0) r.used m'.mark r.space r.holder r.history s.homes (λ k. page_view (r.crew k))
+        → PagesRule None (spans_in spans) told.pages told.frontier (names_page told) keeps_in (r.counter 0) r.used m'.mark r.space r.holder r.history s.homes (λ k. page_view (r.crew k))
         → Rule record { words = words'; homes = s.homes; views = set s.views id (record v { log = ds; refusals = rs }) }
     row_step m' words' ds rs rows words paged =
         let w : View = record v { log = ds; refusals = rs } in
@@ -105,7 +105,7 @@ module _ {V : Type 0} (stands : Told → List Done → List Done → ℕ → V �
           words = words;
           rows = at_view s.views r.crew r.seated id v w l live refl row_view (RowsRule told.pages (moves_of r.history) m') (row_with ds) (λ i. record { live = sym live i; log = ds }) rows;
           units = unchanged s.views r.crew r.seated id v w l live refl unit_view (UnitsRule (Good stands told r.lost) (counted_in counted) (turn_unit told.pages) (names told) r.holder r.history s.homes) refl r.units;
-          paged = unchanged s.views r.crew r.seated id v w l live refl page_view (PagesRule None (spans_in spans) told.pages told.frontier (names_page told) (r.counter 0) r.used m'.mark r.space r.holder r.history s.homes) refl paged;
+          paged = unchanged s.views r.crew r.seated id v w l live refl page_view (PagesRule None (spans_in spans) told.pages told.frontier (names_page told) keeps_in (r.counter 0) r.used m'.mark r.space r.holder r.history s.homes) refl paged;
           draws = unchanged s.views r.crew r.seated id v w l live refl draw_view (DrawsRule (limit told) (first told) r.counter) refl r.draws;
           named = unchanged s.views r.crew r.seated id v w l live refl name_view (NamesRule makes told.next_name (r.counter 1) r.history) refl r.named;
           counts = unchanged s.views r.crew r.seated id v w l live refl count_view (CountsRule (min (r.counter 2) 32) r.history) refl r.counts;
@@ -254,7 +254,7 @@ module _ {V : Type 0} (stands : Told → List Done → List Done → ℕ → V �
         (mark_knows told.pages r.machine v.row p v.log knows_row))
         (subst (λ (z : (ℕ → ℕ) × (ℕ → ℕ)). Encodes told.pages r.machine.word z.0 m'.mark z.1 r.counter (set s.words (unit_at p) (unit_word 0 (v.row + 1) (j + 1))))
         (λ i. (put_same r.holder p 0 (sym vol.1) i, put_same r.space p (j + 1) (sym space) i)) e)
-        (marks_part None (spans_in spans) told.pages told.frontier (names_page told) (r.counter 0) r.used r.machine.mark r.space r.holder r.history s.homes (λ k. page_view (r.crew k)) r.paged p (v.row + 1)
+        (marks_part None (spans_in spans) told.pages told.frontier (names_page told) keeps_in (r.counter 0) r.used r.machine.mark r.space r.holder r.history s.homes (λ k. page_view (r.crew k)) r.paged p (v.row + 1)
         (λ _. ((λ e. omega (arith, e, space)), owner_is)))
 
     -- the mark taken off
@@ -275,7 +275,7 @@ module _ {V : Type 0} (stands : Told → List Done → List Done → ℕ → V �
         (unmark_knows told.pages r.machine v.row p v.log knows_row))
         (subst (λ (z : (ℕ → ℕ) × (ℕ → ℕ)). Encodes told.pages r.machine.word z.0 m'.mark z.1 r.counter (set s.words (unit_at p) (unit_word 0 0 (j + 1))))
         (λ i. (put_same r.holder p 0 (sym vol.1) i, put_same r.space p (j + 1) (sym space) i)) e)
-        (marks_part None (spans_in spans) told.pages told.frontier (names_page told) (r.counter 0) r.used r.machine.mark r.space r.holder r.history s.homes (λ k. page_view (r.crew k)) r.paged p 0
+        (marks_part None (spans_in spans) told.pages told.frontier (names_page told) keeps_in (r.counter 0) r.used r.machine.mark r.space r.holder r.history s.homes (λ k. page_view (r.crew k)) r.paged p 0
         (λ o. absurd (o refl)))
 
     -- a load of a unit's word that is not 0, by one that is refused the unit

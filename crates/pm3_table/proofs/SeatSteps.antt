@@ -12,7 +12,7 @@ use Rattle.pm3_table.specs.declared.view.Told.{Told}
 use Rattle.pm3_table.specs.declared.view.View.{View}
 use Rattle.pm3_table.specs.Crew.{Lives, Seated}
 use Rattle.pm3_table.specs.Deeds.{word_of, marks_of}
-use Rattle.pm3_table.specs.Entries.{makes}
+use Rattle.pm3_table.specs.Entries.{makes, keeps_in}
 use Rattle.pm3_table.specs.Holds.{is_in, holds_of}
 use Rattle.pm3_table.specs.Names.{NameView, NamesRule}
 use Rattle.pm3_table.specs.Telling.{limit, first, names, names_page, Good, spans_in, counted_in}
@@ -166,9 +166,9 @@ module _ {V : Type 0} (stands : Told → List Done → List Done → ℕ → V �
           units = one_view r.crew k n w x unit_view (UnitsRule (Good stands told r.lost) (counted_in counted) turn (names told) r.holder r.history s.homes) (λ i. unit_view (sym here i))
               (subst (λ (y : View). UnitsRule (Good stands told r.lost) (counted_in counted) turn (names told) r.holder r.history s.homes (put (λ j. unit_view (r.crew j)) n (unit_with [] y.seen y.faults))) here
               (units_enter (Good stands told r.lost) (counted_in counted) turn (names told) r.holder r.history s.homes (λ j. unit_view (r.crew j)) r.units k n alive fresh.0));
-          paged = one_view r.crew k n w x page_view (PagesRule None (spans_in spans) told.pages told.frontier (names_page told) (r.counter 0) r.used r.machine.mark r.space r.holder r.history s.homes) (λ i. page_view (sym here i))
-              (subst (λ (y : View). PagesRule None (spans_in spans) told.pages told.frontier (names_page told) (r.counter 0) r.used r.machine.mark r.space r.holder r.history s.homes (put (λ j. page_view (r.crew j)) n (page_with [] [] y.steady []))) here
-              (pages_enter None (spans_in spans) told.pages told.frontier (names_page told) (r.counter 0) r.used r.machine.mark r.space r.holder r.history s.homes (λ j. page_view (r.crew j)) r.paged k n alive));
+          paged = one_view r.crew k n w x page_view (PagesRule None (spans_in spans) told.pages told.frontier (names_page told) keeps_in (r.counter 0) r.used r.machine.mark r.space r.holder r.history s.homes) (λ i. page_view (sym here i))
+              (subst (λ (y : View). PagesRule None (spans_in spans) told.pages told.frontier (names_page told) keeps_in (r.counter 0) r.used r.machine.mark r.space r.holder r.history s.homes (put (λ j. page_view (r.crew j)) n (page_with [] [] y.steady []))) here
+              (pages_enter None (spans_in spans) told.pages told.frontier (names_page told) keeps_in (r.counter 0) r.used r.machine.mark r.space r.holder r.history s.homes (λ j. page_view (r.crew j)) r.paged k n alive));
           draws = two_views r.crew k n w x draw_view (DrawsRule (limit told) (first told) r.counter)
               (draws_two (limit told) (first told) r.counter (λ j. draw_view (r.crew j)) r.draws k n (row_low stands spans counted told s r id v l) low apart (draw_view w) (draw_view x)
               (λ _ c is. r.draws.full k alive c (ap (λ (y : View). is_in c y.filled) here ∙ is)) (λ _ c is. absurd (cc))
@@ -226,10 +226,10 @@ module _ {V : Type 0} (stands : Told → List Done → List Done → ℕ → V �
               ((λ i. record { live = sym l.1 i; holds = (here i).holds; seen = longer (here i).seen (there i).seen; faults = max (here i).faults (there i).faults })
               ∙ (λ i. record { live = v.live; holds = v.holds; seen = sym both_seen i; faults = max v.faults x.faults }))
               (units_absorb (Good stands told r.lost) (counted_in counted) turn (names told) r.holder r.history s.homes (λ j. unit_view (r.crew j)) r.units k n apart alive other_lives (λ u. ap (λ (y : View). holds_of y.holds u) there ∙ blank.holds u) (unit_view spent_view) refl));
-          paged = two_views r.crew k n w spent_view page_view (PagesRule None (spans_in spans) told.pages told.frontier (names_page told) (r.counter 0) r.used r.machine.mark r.space r.holder r.history s.homes)
-              (subst (λ (y : PageView). PagesRule None (spans_in spans) told.pages told.frontier (names_page told) (r.counter 0) r.used r.machine.mark r.space r.holder r.history s.homes (put (put (λ j. page_view (r.crew j)) k y) n (page_view spent_view)))
+          paged = two_views r.crew k n w spent_view page_view (PagesRule None (spans_in spans) told.pages told.frontier (names_page told) keeps_in (r.counter 0) r.used r.machine.mark r.space r.holder r.history s.homes)
+              (subst (λ (y : PageView). PagesRule None (spans_in spans) told.pages told.frontier (names_page told) keeps_in (r.counter 0) r.used r.machine.mark r.space r.holder r.history s.homes (put (put (λ j. page_view (r.crew j)) k y) n (page_view spent_view)))
               (λ i. record { live = sym l.1 i; holds = (here i).holds; spans = (here i).spans; steady = (here i).steady ++ (there i).steady; pages = (here i).pages ++ (there i).pages })
-              (pages_absorb None (spans_in spans) told.pages told.frontier (names_page told) (r.counter 0) r.used r.machine.mark r.space r.holder r.history s.homes (λ j. page_view (r.crew j)) r.paged k n apart alive other_lives (page_view spent_view) refl));
+              (pages_absorb None (spans_in spans) told.pages told.frontier (names_page told) keeps_in (r.counter 0) r.used r.machine.mark r.space r.holder r.history s.homes (λ j. page_view (r.crew j)) r.paged k n apart alive other_lives (page_view spent_view) refl));
           draws = two_views r.crew k n w spent_view draw_view (DrawsRule (limit told) (first told) r.counter)
               (draws_two (limit told) (first told) r.counter (λ j. draw_view (r.crew j)) r.draws k n (row_low stands spans counted told s r id v l) (r.seated.below n other_lives) apart (draw_view w) (draw_view spent_view)
               (λ _ c is. ⊎_elim (λ a. r.draws.full k alive c (ap (λ (y : View). is_in c y.filled) here ∙ a)) (λ a. r.draws.full n other_lives c (ap (λ (y : View). is_in c y.filled) there ∙ a)) (in_either c v.filled x.filled is))

@@ -22,14 +22,15 @@ where_to pages z = if z == 0 then 0 else pages + z
 went : (pages z j : ℕ) → (where_to pages z == space_unit pages j + 1) ≡ (z == j + 1)
 went pages z j = grind (arith, nat_tests)
 
-module _ {S : Type 0} (empty : S) (spans : S → List ℕ) (pages frontier : ℕ) (refers : Done → ℕ → Bool)
+module _ {S : Type 0} (empty : S) (spans : S → List ℕ) (pages frontier : ℕ) (refers : Done → ℕ → Bool) (keeps : ℕ → Done → ℕ → Bool)
     (top : ℕ) (used : ℕ → Bool) (mark space holder : ℕ → ℕ) (history : List Done) (homes homes' : List (Option S)) (crew : ℕ → PageView)
-    (r : PagesRule empty spans pages frontier refers top used mark space holder history homes crew)
+    (r : PagesRule empty spans pages frontier refers keeps top used mark space holder history homes crew)
     (k : ℕ) (alive : (crew k).live ≡ true) (q z l : ℕ) (holds' : List Hold) (steady' : List ℕ) where
-  -- The page q goes to the space z - 1, or to none with the lock l. It was drawn by k, or is of a space of k's; each space
-  -- that it leaves or comes to is out, and no other view holds it.
+  -- The page q goes to the space z - 1, or to none with the lock l. It was drawn by k, or is of a space of k's and comes to no
+  -- other; each space that it leaves or comes to is out, and no other view holds it.
   pub settle_part : q < pages → frontier ≤ q → q < top
       → (used q ≡ false) ⊎ (space q ≢ 0)
+      → (used q ≡ true → (z ≡ 0) ⊎ (z ≡ space q))
       → ((i : ℕ) → i ≢ k → (crew i).live ≡ true → is_in q (crew i).pages ≡ false)
       → z ≤ 32 → (z ≢ 0 → l ≡ 0)
       → ((j : ℕ) → j < 32 → (space q ≡ j + 1) ⊎ (z ≡ j + 1)
@@ -38,9 +39,9 @@ module _ {S : Type 0} (empty : S) (spans : S → List ℕ) (pages frontier : ℕ
       → (z ≢ 0 → get_elem? homes' q ≡ get_elem? homes q)
       → ((j : ℕ) → holds_of holds' (space_unit pages j) ≡ true → holds_of (crew k).holds (space_unit pages j) ≡ true)
       → ((p : ℕ) → is_in p steady' ≡ true → (is_in p (crew k).steady ≡ true) ⊎ ((p ≡ q) × (z ≡ 0)))
-      → PagesRule empty spans pages frontier refers top (put used q true) (put mark q 0) (put space q z) (put holder q l) history homes'
+      → PagesRule empty spans pages frontier refers keeps top (put used q true) (put mark q 0) (put space q z) (put holder q l) history homes'
       (put crew k (page_with holds' (Went q (where_to pages z) ∷ (crew k).spans) steady' (without_number q (crew k).pages)))
-  settle_part low from under fresh alone small free theirs elsewhere stays holding settled =
+  settle_part low from under fresh within alone small free theirs elsewhere stays holding settled =
       let w : PageView = page_with holds' (Went q (where_to pages z) ∷ (crew k).spans) steady' (without_number q (crew k).pages) in
       let was_live : (i : ℕ) → (put crew k w i).live ≡ true → (crew i).live ≡ true = λ i live. dite (ℕ_discrete i k) (λ e. ap (λ (n : ℕ). (crew n).live) e ∙ alive) (λ o. ap (λ (v : PageView). v.live) (sym (put_else crew k w i o)) ∙ live) in
       let not_steady : (p : ℕ) → (used p ≡ true) × (space p ≡ 0) → p ≢ q = λ p is e. ⊎_elim (λ n. let a : used q ≡ true = ap used (sym e) ∙ is.0 in cc) (λ n. n (ap space (sym e) ∙ is.1)) fresh in
@@ -92,4 +93,12 @@ module _ {S : Type 0} (empty : S) (spans : S → List ℕ) (pages frontier : ℕ
             r.apart i j p (was_live i li) (was_live j lj) (old i a) (old j b);
         named = λ p is. put_cases (λ b. b ≡ true) used q true p (λ _. refl) (λ _. r.named p is);
         written = λ p is. let was = r.written p is in let o = not_steady p was in (put_else used q true p o ∙ was.0, put_else space q z p o ∙ was.1);
+        kept = λ j p is. ⊎_elim
+            (λ own. dite (ℕ_discrete p q)
+            (λ here. let in_q : space q ≡ j + 1 = ap space (sym here) ∙ own in
+            let used_q : used q ≡ true = (r.volatile q (λ e. omega (arith, e, in_q))).2 in
+            ⊎_elim (λ none. inr (put_at used q true p here, put_at space q z p here ∙ none)) (λ stays_in. inl (put_at space q z p here ∙ (stays_in ∙ in_q))) (within used_q))
+            (λ o. inl (put_else space q z p o ∙ own)))
+            (λ was. let o = not_steady p was in inr (put_else used q true p o ∙ was.0, put_else space q z p o ∙ was.1))
+            (r.kept j p is);
       }

@@ -18,12 +18,12 @@ use Rattle.pm3_table.specs.declared.view.Told.{Told}
 use Rattle.pm3_table.specs.declared.view.View.{View}
 use Rattle.pm3_table.specs.Crew.{Lives}
 use Rattle.pm3_table.specs.Deeds.{marks_of}
-use Rattle.pm3_table.specs.Entries.{makes}
+use Rattle.pm3_table.specs.Entries.{makes, keeps_in}
 use Rattle.pm3_table.specs.Histories.{NoneHas}
 use Rattle.pm3_table.specs.Holds.{holds_of, is_in, without_number}
 use Rattle.pm3_table.specs.Names.{NamesRule}
 use Rattle.pm3_table.specs.Ops.{settled_in, settled_held}
-use Rattle.pm3_table.specs.Settles.{unmark_log, MaySettle}
+use Rattle.pm3_table.specs.Settles.{unmark_log, MaySettle, MaySettleIn}
 use Rattle.pm3_table.specs.Telling.{limit, first, names, names_page, Good, spans_in, counted_in}
 use Rattle.pm3_table.specs.Words.{Encodes, unit_at, unit_word, turn_unit, space_unit}
 use Rattle.pm3_table.specs.Rows.{RowView, RowsRule, row_with, moves_of}
@@ -52,6 +52,11 @@ newer p q xs is = dite (ℕ_discrete q p) (λ e. inr (sym e, refl)) (λ o. inl (
 
 goes : (pages j : ℕ) → where_to pages (j + 1) ≡ space_unit pages j + 1
 goes pages j = grind (arith, nat_tests)
+
+-- who may settle a page in a space may settle it
+pub may_settle : (told : Told) (v : View) (j q : ℕ) → MaySettleIn told v j q → MaySettle told v q
+may_settle told v j q (inl drawn) = inl drawn
+may_settle told v j q (inr has) = inr (j, has)
 
 -- the rows after a mark was taken off, or none was there
 record Cleaned (pages : ℕ) (m m' : Machine) (q : ℕ) : Type 0 where
@@ -147,10 +152,15 @@ module _ {V : Type 0} (stands : Told → List Done → List Done → ℕ → V �
           (λ has. let a = in_space stands spans counted told s r id v l has.0 q has.1 in let u = (r.paged.volatile q (λ e. omega (arith, a, e))).2 in let n = (r.paged.drawn i live q y).3 in cc) may))
           (λ n. n) (yes_or_no (is_in q (r.crew i).pages))
 
+    -- it comes to no other space
+    own_only : (j : ℕ) → MaySettleIn told v j q → r.used q ≡ true → (j + 1 ≡ 0) ⊎ (j + 1 ≡ r.space q)
+    own_only j (inl drawn) used = absurd (let n = (is_drawn drawn).3 in cc)
+    own_only j (inr has) used = inr (sym (in_space stands spans counted told s r id v l j q has))
+
     -- it becomes volatile, in a space that the view holds
-    pub settles_in : (j : ℕ) → j < 32 → holds_of v.holds (space_unit told.pages j) ≡ true
+    pub settles_in : (j : ℕ) → MaySettleIn told v j q → j < 32 → holds_of v.holds (space_unit told.pages j) ≡ true
         → Rule record { words = set s.words (unit_at q) (unit_word 0 0 (j + 1)); homes = s.homes; views = set s.views id (settled_in v q (space_unit told.pages j) (unmark_log v.log q)) }
-    settles_in j low holds =
+    settles_in j only low holds =
         let w : View = settled_in v q (space_unit told.pages j) (unmark_log v.log q) in
         let here = here_is stands spans counted told s r id v l in
         let live : w.live ≡ true = l.1 in
@@ -171,12 +181,12 @@ module _ {V : Type 0} (stands : Told → List Done → List Done → ℕ → V �
           rows = at_view s.views r.crew r.seated id v w l live refl row_view (RowsRule told.pages (moves_of r.history) rows.0) (row_with (unmark_log v.log q)) (λ i. record { live = sym live i; log = unmark_log v.log q }) rows.2;
           units = subst (λ (h : ℕ → ℕ). UnitsRule (Good stands told r.lost) (counted_in counted) turn (names told) h r.history s.homes (λ k. unit_view (put r.crew v.row w k))) (sym (put_same r.holder q 0 (sym is_free)))
               (unchanged s.views r.crew r.seated id v w l live refl unit_view (UnitsRule (Good stands told r.lost) (counted_in counted) turn (names told) r.holder r.history s.homes) refl r.units);
-          paged = subst (λ (m : ℕ → ℕ). PagesRule None (spans_in spans) told.pages told.frontier (names_page told) (r.counter 0) (put r.used q true) m (put r.space q (j + 1)) (put r.holder q 0) r.history s.homes (λ k. page_view (put r.crew v.row w k))) (sym rows.1.mark)
-              (at_view s.views r.crew r.seated id v w l live refl page_view (PagesRule None (spans_in spans) told.pages told.frontier (names_page told) (r.counter 0) (put r.used q true) (put r.machine.mark q 0) (put r.space q (j + 1)) (put r.holder q 0) r.history s.homes)
+          paged = subst (λ (m : ℕ → ℕ). PagesRule None (spans_in spans) told.pages told.frontier (names_page told) keeps_in (r.counter 0) (put r.used q true) m (put r.space q (j + 1)) (put r.holder q 0) r.history s.homes (λ k. page_view (put r.crew v.row w k))) (sym rows.1.mark)
+              (at_view s.views r.crew r.seated id v w l live refl page_view (PagesRule None (spans_in spans) told.pages told.frontier (names_page told) keeps_in (r.counter 0) (put r.used q true) (put r.machine.mark q 0) (put r.space q (j + 1)) (put r.holder q 0) r.history s.homes)
               (page_with (r.crew v.row).holds (Went q (where_to told.pages (j + 1)) ∷ (r.crew v.row).spans) (r.crew v.row).steady (without_number q (r.crew v.row).pages))
               (λ i. record { live = sym live i; holds = (here i).holds; spans = Went q (goes told.pages j i) ∷ (here i).spans; steady = (here i).steady; pages = without_number q (here i).pages })
-              (settle_part None (spans_in spans) told.pages told.frontier (names_page told) (r.counter 0) r.used r.machine.mark r.space r.holder r.history s.homes s.homes (λ k. page_view (r.crew k)) r.paged v.row (here_lives stands spans counted told s r id v l) q (j + 1) 0 (r.crew v.row).holds (r.crew v.row).steady
-              bounds_are.1 bounds_are.0 bounds_are.2 fresh (alone (j + 1) mine) (omega (arith, low)) (λ _. refl) (theirs (j + 1) mine) (λ i _. refl) (λ _. refl) (λ i x. x) (λ p x. inl x)));
+              (settle_part None (spans_in spans) told.pages told.frontier (names_page told) keeps_in (r.counter 0) r.used r.machine.mark r.space r.holder r.history s.homes s.homes (λ k. page_view (r.crew k)) r.paged v.row (here_lives stands spans counted told s r id v l) q (j + 1) 0 (r.crew v.row).holds (r.crew v.row).steady
+              bounds_are.1 bounds_are.0 bounds_are.2 fresh (own_only j only) (alone (j + 1) mine) (omega (arith, low)) (λ _. refl) (theirs (j + 1) mine) (λ i _. refl) (λ _. refl) (λ i x. x) (λ p x. inl x)));
           draws = unchanged s.views r.crew r.seated id v w l live refl draw_view (DrawsRule (limit told) (first told) r.counter) refl r.draws;
           named = unchanged s.views r.crew r.seated id v w l live refl name_view (NamesRule makes told.next_name (r.counter 1) r.history) refl r.named;
           counts = unchanged s.views r.crew r.seated id v w l live refl count_view (CountsRule (min (r.counter 2) 32) r.history) refl r.counts;
@@ -214,12 +224,12 @@ module _ {V : Type 0} (stands : Told → List Done → List Done → ℕ → V �
               (unit_with (Took q ∷ (r.crew v.row).holds) (r.crew v.row).seen (r.crew v.row).faults) (λ i. record { live = sym live i; holds = Took q ∷ (here i).holds; seen = (here i).seen; faults = (here i).faults })
               (holds_part (Good stands told r.lost) (counted_in counted) turn (names told) (good_frame stands spans counted told frame r.lost) r.holder r.history s.homes (λ k. unit_view (r.crew k)) r.units v.row (here_lives stands spans counted told s r id v l) q
               (let b = bounds_are.1 in omega (arith, b)) is_free no_commit);
-          paged = subst (λ (m : ℕ → ℕ). PagesRule None (spans_in spans) told.pages told.frontier (names_page told) (r.counter 0) (put r.used q true) m (put r.space q 0) holder' r.history (set s.homes q none) (λ k. page_view (put r.crew v.row w k))) (sym rows.1.mark)
-              (at_view s.views r.crew r.seated id v w l live refl page_view (PagesRule None (spans_in spans) told.pages told.frontier (names_page told) (r.counter 0) (put r.used q true) (put r.machine.mark q 0) (put r.space q 0) holder' r.history (set s.homes q none))
+          paged = subst (λ (m : ℕ → ℕ). PagesRule None (spans_in spans) told.pages told.frontier (names_page told) keeps_in (r.counter 0) (put r.used q true) m (put r.space q 0) holder' r.history (set s.homes q none) (λ k. page_view (put r.crew v.row w k))) (sym rows.1.mark)
+              (at_view s.views r.crew r.seated id v w l live refl page_view (PagesRule None (spans_in spans) told.pages told.frontier (names_page told) keeps_in (r.counter 0) (put r.used q true) (put r.machine.mark q 0) (put r.space q 0) holder' r.history (set s.homes q none))
               (page_with (Took q ∷ (r.crew v.row).holds) (Went q (where_to told.pages 0) ∷ (r.crew v.row).spans) (q ∷ (r.crew v.row).steady) (without_number q (r.crew v.row).pages))
               (λ i. record { live = sym live i; holds = Took q ∷ (here i).holds; spans = Went q 0 ∷ (here i).spans; steady = q ∷ (here i).steady; pages = without_number q (here i).pages })
-              (settle_part None (spans_in spans) told.pages told.frontier (names_page told) (r.counter 0) r.used r.machine.mark r.space r.holder r.history s.homes (set s.homes q none) (λ k. page_view (r.crew k)) r.paged v.row (here_lives stands spans counted told s r id v l) q 0 (v.row + 1) (Took q ∷ (r.crew v.row).holds) (q ∷ (r.crew v.row).steady)
-              bounds_are.1 bounds_are.0 bounds_are.2 fresh (alone 0 mine) (omega arith) (λ o. absurd (o refl)) (theirs 0 mine) (λ i o. set_else s.homes q i none o) (λ o. absurd (o refl))
+              (settle_part None (spans_in spans) told.pages told.frontier (names_page told) keeps_in (r.counter 0) r.used r.machine.mark r.space r.holder r.history s.homes (set s.homes q none) (λ k. page_view (r.crew k)) r.paged v.row (here_lives stands spans counted told s r id v l) q 0 (v.row + 1) (Took q ∷ (r.crew v.row).holds) (q ∷ (r.crew v.row).steady)
+              bounds_are.1 bounds_are.0 bounds_are.2 fresh (λ _. inl refl) (alone 0 mine) (omega arith) (λ o. absurd (o refl)) (theirs 0 mine) (λ i o. set_else s.homes q i none o) (λ o. absurd (o refl))
               (λ i x. sym (put_else (holds_of (r.crew v.row).holds) q true (space_unit told.pages i) (λ at. let b = bounds_are.1 in omega (arith, at, b))) ∙ x)
               (λ p x. newer p q (r.crew v.row).steady x)));
           draws = unchanged s.views r.crew r.seated id v w l live refl draw_view (DrawsRule (limit told) (first told) r.counter) refl r.draws;

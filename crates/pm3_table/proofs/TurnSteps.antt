@@ -21,7 +21,7 @@ use Rattle.pm3_table.specs.declared.view.Told.{Told}
 use Rattle.pm3_table.specs.declared.view.View.{View}
 use Rattle.pm3_table.specs.Crew.{Lives}
 use Rattle.pm3_table.specs.Deeds.{IsClearedIn}
-use Rattle.pm3_table.specs.Entries.{makes, touches, moved_of, moved_by, touched_by, writes}
+use Rattle.pm3_table.specs.Entries.{makes, touches, moved_of, moved_by, touched_by, writes, keeps_in}
 use Rattle.pm3_table.specs.Histories.{some_has, AllBy}
 use Rattle.pm3_table.specs.Holds.{holds_of, spans_of, is_in}
 use Rattle.pm3_table.specs.Names.{NamesRule, spare}
@@ -181,7 +181,7 @@ module _ {V : Type 0} (stands : Told → List Done → List Done → ℕ → V �
         let low = (r.paged.low p (used_is p (uses p (written_named told p more is)))).0 in
         let mine : r.holder p ≡ v.row + 1 = holds_unit stands spans counted told s r id v l p
         (⊎_elim (λ y. y) (λ n. absurd (some_none (some_has (names told) more p) (written_names told p more is) (held p n))) (yes_or_no (holds_of v.holds p))) in
-        held_page None (spans_in spans) told.pages told.frontier (names_page told) (r.counter 0) r.used r.machine.mark r.space r.holder r.history s.homes (λ k. page_view (r.crew k)) r.paged p low (λ z. omega (arith, z, mine))
+        held_page None (spans_in spans) told.pages told.frontier (names_page told) keeps_in (r.counter 0) r.used r.machine.mark r.space r.holder r.history s.homes (λ k. page_view (r.crew k)) r.paged p low (λ z. omega (arith, z, mine))
 
     pub gives_turn : (x : Option V) (more failed : List Done) → holds_of v.holds turn ≡ true
         → Good stands told (v.lost ++ failed) (v.seen ++ more) turn x → v.faults ≤ counted_in counted x → MayJoin told v more failed
@@ -200,7 +200,7 @@ module _ {V : Type 0} (stands : Told → List Done → List Done → ℕ → V �
         let lost_now : lost' ≡ v.lost ++ failed = ap (λ (h : List Done). h ++ failed) lost_is in
         let own : AllBy v.row more = own_front v.row more failed may.own in
         let sp : r.space turn ≡ 0 = dite (ℕ_discrete (r.space turn) 0) (λ e. e) (λ o. absurd (taken (r.paged.volatile turn o).1)) in
-        let mk : r.machine.mark turn ≡ 0 = not_marked None (spans_in spans) told.pages told.frontier (names_page told) (r.counter 0) r.used r.machine.mark r.space r.holder r.history s.homes (λ k. page_view (r.crew k)) r.paged turn sp in
+        let mk : r.machine.mark turn ≡ 0 = not_marked None (spans_in spans) told.pages told.frontier (names_page told) keeps_in (r.counter 0) r.used r.machine.mark r.space r.holder r.history s.homes (λ k. page_view (r.crew k)) r.paged turn sp in
         let e = encode_unit told.pages r.machine.word r.holder r.machine.mark r.space r.counter s.words r.words turn 0 0 0 (omega arith) in
         let holder' : ℕ → ℕ = put r.holder turn 0 in
         let drawn : (n : ℕ) → some_has makes more n ≡ true → is_in n (r.crew v.row).names ≡ true = λ n is. ap (λ (y : View). is_in n y.names) here ∙ may.drawn n is in
@@ -229,15 +229,16 @@ module _ {V : Type 0} (stands : Told → List Done → List Done → ℕ → V �
               (λ u other. may.held u (not_held u other))
               (λ o. absurd (o refl))
               (λ _. (refl, subst (λ (y : View). y.faults ≤ counted_in counted x) (sym here) heard)));
-          paged = at_view s.views r.crew seated id v w l live refl page_view (PagesRule None (spans_in spans) told.pages told.frontier (names_page told) (r.counter 0) r.used r.machine.mark r.space holder' (r.history ++ more) (list.set s.homes turn (some x)))
+          paged = at_view s.views r.crew seated id v w l live refl page_view (PagesRule None (spans_in spans) told.pages told.frontier (names_page told) keeps_in (r.counter 0) r.used r.machine.mark r.space holder' (r.history ++ more) (list.set s.homes turn (some x)))
               (page_with (Gave turn ∷ (r.crew v.row).holds) (r.crew v.row).spans (r.crew v.row).steady (r.crew v.row).pages)
               (λ i. record { live = sym live i; holds = Gave turn ∷ (here i).holds; spans = (here i).spans; steady = (here i).steady; pages = (here i).pages })
-              (pages_give None (spans_in spans) told.pages told.frontier (names_page told) (r.counter 0) r.used r.machine.mark r.space r.holder r.history s.homes (λ k. page_view (r.crew k)) r.paged v.row lives
+              (pages_give None (spans_in spans) told.pages told.frontier (names_page told) keeps_in (r.counter 0) r.used r.machine.mark r.space r.holder r.history s.homes (λ k. page_view (r.crew k)) r.paged v.row lives
               turn x more mine (omega (arith, r.units.deep))
               (λ j below at p. absurd (omega (arith, at, below)))
               (λ p is at. let a = (r.paged.volatile p (r.paged.marks p is).0).0 in let b = (r.paged.marks p is).0 in omega (arith, at, a, b))
               (λ p is. used_is p (may.used p is))
-              (λ p is. persists p more may.held may.used is));
+              (λ p is. persists p more may.held may.used is)
+              (λ j p is. in_space stands spans counted told s r id v l j p (may.kept j p is)));
           draws = unchanged s.views r.crew seated id v w l live refl draw_view (DrawsRule (limit told) (first told) r.counter) refl r.draws;
           named = at_view s.views r.crew seated id v w l live refl name_view (NamesRule makes told.next_name (r.counter 1) (r.history ++ more))
               (name_with (spare (some_has makes more) (r.crew v.row).names)) (λ i. record { live = sym live i; names = spare (some_has makes more) (here i).names })

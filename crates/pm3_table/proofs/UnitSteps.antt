@@ -1,5 +1,5 @@
 -- Steps on units keep the whole rule: a unit is taken, given back, and the turn is given back with commits.
-use Rattle.std.proofs.Common.{◌≡◌, ◌≢◌, ℕ, ◌+◌, ◌-◌, ◌<◌, ◌≤◌, ◌==◌, ◌||◌, nat_lt, Bool, true, false, if◌then◌else◌, List, [], ◌∷◌, ◌++◌, get_or, min, Option, None, Some, refl, sym, ap, ◌∙◌, subst, arith}
+use Rattle.std.proofs.Common.{◌≡◌, ◌≢◌, ℕ, ◌+◌, ◌-◌, ◌<◌, ◌≤◌, ◌==◌, ◌||◌, nat_lt, Bool, true, false, if◌then◌else◌, List, [], ◌∷◌, ◌++◌, get_or, min, Option, None, Some, refl, sym, ap, ◌∙◌, subst, ⊎_elim, arith}
 use Rattle.std.proofs.Math.ListN.{set}
 use mathlib.Core.Option.{none, some}
 use mathlib.Core.Logic.{dite}
@@ -14,12 +14,12 @@ use Rattle.pm3_table.specs.declared.view.Told.{Told}
 use Rattle.pm3_table.specs.declared.view.View.{View}
 use Rattle.pm3_table.specs.Crew.{Lives}
 use Rattle.pm3_table.specs.Deeds.{marks_of}
-use Rattle.pm3_table.specs.Entries.{makes, writes}
+use Rattle.pm3_table.specs.Entries.{makes, writes, keeps_in}
 use Rattle.pm3_table.specs.Histories.{some_has, by}
 use Rattle.pm3_table.specs.Holds.{holds_of, spans_of, is_in}
 use Rattle.pm3_table.specs.Names.{NamesRule}
 use Rattle.pm3_table.specs.Ops.{took, gave}
-use Rattle.pm3_table.specs.Telling.{limit, first, names, names_page, NoneNames, Lawful, Good, spans_in, counted_in, is_steady, HasInSpace, IsSound}
+use Rattle.pm3_table.specs.Telling.{limit, first, names, names_page, NoneNames, Lawful, Good, spans_in, counted_in, is_steady, HasInSpace, IsOnlyIn, IsSound}
 use Rattle.pm3_table.specs.Words.{Encodes, unit_at, unit_word, turn_unit, space_unit}
 use Rattle.pm3_table.specs.Rows.{RowsRule, moves_of}
 use Rattle.pm3_table.specs.Pages.{PagesRule}
@@ -97,7 +97,7 @@ module _ {V : Type 0} (stands : Told → List Done → List Done → ℕ → V �
   module _ (s : S) (r : Rule s) (id : ℕ) (v : View) (l : Lives s.views id v) where
     -- what is told of the view of one that has seen the whole history
     pub sound_now : (w : View) → w.row ≡ v.row → w.seen ≡ r.history → w.mine ≡ v.mine → w.names ≡ v.names → w.pages ≡ v.pages
-        → ((j p : ℕ) → HasInSpace told w j p → is_steady told w p ≡ false) → IsSound told w r.lost
+        → ((j p : ℕ) → HasInSpace told w j p → IsOnlyIn told w j p) → IsSound told w r.lost
     sound_now w row seen mine named pages apart =
         let here = here_is stands spans counted told s r id v l in
         let lives = here_lives stands spans counted told s r id v l in record {
@@ -123,11 +123,15 @@ module _ {V : Type 0} (stands : Told → List Done → List Done → ℕ → V �
         r.paged.written p (ap (λ (h : List Done). some_has writes h p) know.is
         ∙ has_left writes (r.crew v.row).seen know.after p (ap (λ (x : View). some_has writes x.seen p) (here_is stands spans counted told s r id v l) ∙ is)))
 
-    -- once it has taken a unit, no page of a space that it holds is one that it knows to be persistent
+    -- once it has taken a unit, a page of a space that it holds is in no other, and none that it knows to be persistent
     pub apart_now : (u : ℕ) (x : Slot) (after : List Done) → get_elem? s.homes u ≡ some (some x) → r.history ≡ v.seen ++ after
         → (j p : ℕ) → HasInSpace told (took turn v u after r.lost (spans_in spans x) (counted_in counted x)) j p
-        → is_steady told (took turn v u after r.lost (spans_in spans x) (counted_in counted x)) p ≡ false
-    apart_now u x after at is j p has = falls (is_steady told w p) (λ steady. omega (arith, space_is, plain steady))
+        → IsOnlyIn told (took turn v u after r.lost (spans_in spans x) (counted_in counted x)) j p
+    apart_now u x after at is j p has = record {
+      bare = falls (is_steady told w p) (λ steady. omega (arith, space_is, plain steady));
+      kept = λ i left. ⊎_elim (λ same. omega (arith, space_is, same)) (λ was. absurd (omega (arith, space_is, was.1)))
+          (r.paged.kept i p (ap (λ (h : List Done). some_has (keeps_in i) h p) is ∙ left));
+    }
       where
         w : View
         w = took turn v u after r.lost (spans_in spans x) (counted_in counted x)
@@ -156,7 +160,7 @@ module _ {V : Type 0} (stands : Told → List Done → List Done → ℕ → V �
     pub word_free : (u : ℕ) → u < told.pages + 33 → (u < told.pages → r.space u ≡ 0) → get_or s.words (unit_at u) 0 ≡ r.holder u
     word_free u low plain =
         let sp : r.space u ≡ 0 = dite (ℕ_discrete (r.space u) 0) (λ e. e) (λ o. plain (r.paged.low u (r.paged.volatile u o).2).0) in
-        let mk : r.machine.mark u ≡ 0 = not_marked None (spans_in spans) told.pages told.frontier (names_page told) (r.counter 0) r.used r.machine.mark r.space r.holder r.history s.homes (λ k. page_view (r.crew k)) r.paged u sp in
+        let mk : r.machine.mark u ≡ 0 = not_marked None (spans_in spans) told.pages told.frontier (names_page told) keeps_in (r.counter 0) r.used r.machine.mark r.space r.holder r.history s.homes (λ k. page_view (r.crew k)) r.paged u sp in
         r.words.units u low ∙ (λ i. unit_word (r.holder u) (mk i) (sp i)) ∙ plain_word (r.holder u)
 
     -- a unit that is free is taken
@@ -175,7 +179,7 @@ module _ {V : Type 0} (stands : Told → List Done → List Done → ℕ → V �
         let live : w.live ≡ true = l.1 in
         let plain : u < told.pages → r.space u ≡ 0 = λ below. (steady_is u (steady below)).1 in
         let sp : r.space u ≡ 0 = dite (ℕ_discrete (r.space u) 0) (λ e. e) (λ o. plain (r.paged.low u (r.paged.volatile u o).2).0) in
-        let mk : r.machine.mark u ≡ 0 = not_marked None (spans_in spans) told.pages told.frontier (names_page told) (r.counter 0) r.used r.machine.mark r.space r.holder r.history s.homes (λ k. page_view (r.crew k)) r.paged u sp in
+        let mk : r.machine.mark u ≡ 0 = not_marked None (spans_in spans) told.pages told.frontier (names_page told) keeps_in (r.counter 0) r.used r.machine.mark r.space r.holder r.history s.homes (λ k. page_view (r.crew k)) r.paged u sp in
         let e = encode_unit told.pages r.machine.word r.holder r.machine.mark r.space r.counter s.words r.words u (v.row + 1) 0 0 (omega (arith, low)) in
         let holder' : ℕ → ℕ = put r.holder u (v.row + 1) in
         record {
@@ -197,10 +201,10 @@ module _ {V : Type 0} (stands : Told → List Done → List Done → ℕ → V �
               (takes_part (Good stands told r.lost) (counted_in counted) turn (names told) (good_frame r.lost) r.holder r.history s.homes (λ k. unit_view (r.crew k)) r.units v.row lives
               u (if u == turn then counted_in counted x else (r.crew v.row).faults) x (omega (arith, low)) free at
               (λ o. chosen_else u turn (counted_in counted x) (r.crew v.row).faults o) (λ same. chosen_at u turn (counted_in counted x) (r.crew v.row).faults same));
-          paged = at_view s.views r.crew seated id v w l live refl page_view (PagesRule None (spans_in spans) told.pages told.frontier (names_page told) (r.counter 0) r.used r.machine.mark r.space holder' r.history (set s.homes u none))
+          paged = at_view s.views r.crew seated id v w l live refl page_view (PagesRule None (spans_in spans) told.pages told.frontier (names_page told) keeps_in (r.counter 0) r.used r.machine.mark r.space holder' r.history (set s.homes u none))
               (page_with (Took u ∷ (r.crew v.row).holds) (Spread u (spans_in spans x) ∷ (r.crew v.row).spans) (r.crew v.row).steady (r.crew v.row).pages)
               (λ i. record { live = sym live i; holds = Took u ∷ (here i).holds; spans = Spread u (spans_in spans x) ∷ (here i).spans; steady = (here i).steady; pages = (here i).pages })
-              (pages_take None (spans_in spans) told.pages told.frontier (names_page told) (r.counter 0) r.used r.machine.mark r.space r.holder r.history s.homes (λ k. page_view (r.crew k)) r.paged v.row lives
+              (pages_take None (spans_in spans) told.pages told.frontier (names_page told) keeps_in (r.counter 0) r.used r.machine.mark r.space r.holder r.history s.homes (λ k. page_view (r.crew k)) r.paged v.row lives
               u x free (λ below. steady_is u (steady below)) at (omega (arith, low, r.units.deep)));
           draws = unchanged s.views r.crew seated id v w l live refl draw_view (DrawsRule (limit told) (first told) r.counter) refl r.draws;
           named = unchanged s.views r.crew seated id v w l live refl name_view (NamesRule makes told.next_name (r.counter 1) r.history) refl r.named;
@@ -232,7 +236,7 @@ module _ {V : Type 0} (stands : Told → List Done → List Done → ℕ → V �
         let mine : r.holder u ≡ v.row + 1 = holds_unit stands spans counted told s r id v l u holds in
         let taken : r.holder u ≢ 0 = λ z. omega (arith, z, mine) in
         let sp : r.space u ≡ 0 = dite (ℕ_discrete (r.space u) 0) (λ e. e) (λ o. absurd (taken (r.paged.volatile u o).1)) in
-        let mk : r.machine.mark u ≡ 0 = not_marked None (spans_in spans) told.pages told.frontier (names_page told) (r.counter 0) r.used r.machine.mark r.space r.holder r.history s.homes (λ k. page_view (r.crew k)) r.paged u sp in
+        let mk : r.machine.mark u ≡ 0 = not_marked None (spans_in spans) told.pages told.frontier (names_page told) keeps_in (r.counter 0) r.used r.machine.mark r.space r.holder r.history s.homes (λ k. page_view (r.crew k)) r.paged u sp in
         let e = encode_unit told.pages r.machine.word r.holder r.machine.mark r.space r.counter s.words r.words u 0 0 0 (omega (arith, low)) in
         let apart : u ≢ turn = λ same. omega (arith, same, low) in
         let holder' : ℕ → ℕ = put r.holder u 0 in
@@ -259,11 +263,11 @@ module _ {V : Type 0} (stands : Told → List Done → List Done → ℕ → V �
               u (r.crew v.row).faults x [] mine
               (subst (λ (h : List Done). Good stands told r.lost h u x) (ap (λ (y : View). y.seen) (sym here) ∙ sym (append_nothing (r.crew v.row).seen)) good)
               (λ _ _. refl) (λ _. (refl, refl)) (λ same. absurd (apart same))));
-          paged = subst (λ (h : List Done). PagesRule None (spans_in spans) told.pages told.frontier (names_page told) (r.counter 0) r.used r.machine.mark r.space holder' h (set s.homes u (some x)) (λ k. page_view (put r.crew v.row w k))) (append_nothing r.history)
-              (at_view s.views r.crew seated id v w l live refl page_view (PagesRule None (spans_in spans) told.pages told.frontier (names_page told) (r.counter 0) r.used r.machine.mark r.space holder' (r.history ++ []) (set s.homes u (some x)))
+          paged = subst (λ (h : List Done). PagesRule None (spans_in spans) told.pages told.frontier (names_page told) keeps_in (r.counter 0) r.used r.machine.mark r.space holder' h (set s.homes u (some x)) (λ k. page_view (put r.crew v.row w k))) (append_nothing r.history)
+              (at_view s.views r.crew seated id v w l live refl page_view (PagesRule None (spans_in spans) told.pages told.frontier (names_page told) keeps_in (r.counter 0) r.used r.machine.mark r.space holder' (r.history ++ []) (set s.homes u (some x)))
               (page_with (Gave u ∷ (r.crew v.row).holds) (r.crew v.row).spans (r.crew v.row).steady (r.crew v.row).pages)
               (λ i. record { live = sym live i; holds = Gave u ∷ (here i).holds; spans = (here i).spans; steady = (here i).steady; pages = (here i).pages })
-              (pages_give None (spans_in spans) told.pages told.frontier (names_page told) (r.counter 0) r.used r.machine.mark r.space r.holder r.history s.homes (λ k. page_view (r.crew k)) r.paged v.row lives
+              (pages_give None (spans_in spans) told.pages told.frontier (names_page told) keeps_in (r.counter 0) r.used r.machine.mark r.space r.holder r.history s.homes (λ k. page_view (r.crew k)) r.paged v.row lives
               u x [] mine (omega (arith, low, r.units.deep))
               (λ j below at p. fits p (omega (arith, at)) ∙ (ap (λ (y : View). spans_of y.spans u p) (sym here) ∙ held_is j below at p))
               (λ p is at. let sp_is = (r.paged.volatile p (r.paged.marks p is).0) in
@@ -273,7 +277,7 @@ module _ {V : Type 0} (stands : Told → List Done → List Done → ℕ → V �
               let marker : r.machine.mark p ≡ v.row + 1 = sym (r.paged.marks p is).1 ∙ (ap r.holder at ∙ mine) in
               let mine_too : marks_of v.log p ≡ true = (knows_row stands spans counted told s r id v l).marks p ∙ equal_test (r.machine.mark p) (v.row + 1) marker in
               cc)
-              (λ p is. absurd (cc)) (λ p is. absurd (cc))));
+              (λ p is. absurd (cc)) (λ p is. absurd (cc)) (λ j p is. absurd (cc))));
           draws = unchanged s.views r.crew seated id v w l live refl draw_view (DrawsRule (limit told) (first told) r.counter) refl r.draws;
           named = unchanged s.views r.crew seated id v w l live refl name_view (NamesRule makes told.next_name (r.counter 1) r.history) refl r.named;
           counts = unchanged s.views r.crew seated id v w l live refl count_view (CountsRule (min (r.counter 2) 32) r.history) refl r.counts;

@@ -42,6 +42,14 @@ touched_by (Some p) page =
 abbrev pub touches : Done → ℕ → Bool
 touches e page = touched_by e.pass page
 
+-- the pass is of space j and leaves it an image of the page
+abbrev pub kept_by : ℕ → Option Pass → ℕ → Bool
+kept_by j None page = false
+kept_by j (Some p) page = (p.space == j) && contains_key p.after page
+
+abbrev pub keeps_in : ℕ → Done → ℕ → Bool
+keeps_in j e page = kept_by j e.pass page
+
 -- the commit makes the name: its transaction made an object of that name in the space
 abbrev pub makes : Done → ℕ → Bool
 makes e n = made_by e.pass n

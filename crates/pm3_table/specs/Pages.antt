@@ -18,12 +18,12 @@ pub record PageView : Type 0 where
   pub pages : List ℕ
 
 -- `empty` is a slot without a value, and `spans` tells the pages of a space's value.
-module _ {S : Type 0} (empty : S) (spans : S → List ℕ) (pages frontier : ℕ) (refers : Done → ℕ → Bool) where
+module _ {S : Type 0} (empty : S) (spans : S → List ℕ) (pages frontier : ℕ) (refers : Done → ℕ → Bool) (keeps : ℕ → Done → ℕ → Bool) where
   -- Pages below the first frontier are used and persistent at the start. A used page is below the frontier. A page that is
   -- not used has the word 0, and neither it nor a page of a space has a value. A marked page is of a space that its marker
   -- holds. A space that is at home has the pages whose words show it, and so does one that a view holds, as the view
   -- says. What a view calls persistent is, as is each page that a commit wrote, and what it has drawn no one else has. A page
-  -- that an image names is used.
+  -- that an image names is used. A page that a pass left in a space is still in that space, or it is persistent.
   pub record PagesRule (top : ℕ) (used : ℕ → Bool) (mark space holder : ℕ → ℕ) (history : List Done)
       (homes : List (Option S)) (crew : ℕ → PageView) : Type 0 where
     pub opened : (p : ℕ) → p < frontier → used p ≡ true
@@ -43,3 +43,4 @@ module _ {S : Type 0} (empty : S) (spans : S → List ℕ) (pages frontier : ℕ
         → is_in p (crew j).pages ≡ true → i ≡ j
     pub named : (p : ℕ) → some_has refers history p ≡ true → used p ≡ true
     pub written : (p : ℕ) → some_has writes history p ≡ true → (used p ≡ true) × (space p ≡ 0)
+    pub kept : (j p : ℕ) → some_has (keeps j) history p ≡ true → (space p ≡ j + 1) ⊎ ((used p ≡ true) × (space p ≡ 0))

@@ -7,7 +7,7 @@ use Rattle.pm3_table.specs.declared.view.Told.{Told}
 use Rattle.pm3_table.specs.declared.view.View.{View}
 use Rattle.pm3_table.specs.Crew.{Seated}
 use Rattle.pm3_table.specs.Words.{Encodes, turn_unit}
-use Rattle.pm3_table.specs.Entries.{makes}
+use Rattle.pm3_table.specs.Entries.{makes, keeps_in}
 use Rattle.pm3_table.specs.OpensBelow.{OpensBelow}
 use Rattle.pm3_table.specs.Rows.{RowView, RowsRule, moves_of}
 use Rattle.pm3_table.specs.Units.{UnitView, UnitsRule}
@@ -65,7 +65,7 @@ module _ {V : Type 0} (stands : Told → List Done → List Done → ℕ → V �
     pub words : Encodes told.pages machine.word holder machine.mark space counter s.words
     pub rows : RowsRule told.pages (moves_of history) machine (λ k. row_view (crew k))
     pub units : UnitsRule (Good stands told lost) (counted_in counted) (turn_unit told.pages) (names told) holder history s.homes (λ k. unit_view (crew k))
-    pub paged : PagesRule None (spans_in spans) told.pages told.frontier (names_page told) (counter 0) used machine.mark space holder history s.homes (λ k. page_view (crew k))
+    pub paged : PagesRule None (spans_in spans) told.pages told.frontier (names_page told) keeps_in (counter 0) used machine.mark space holder history s.homes (λ k. page_view (crew k))
     pub draws : DrawsRule (limit told) (first told) counter (λ k. draw_view (crew k))
     pub named : NamesRule makes told.next_name (counter 1) history (λ k. name_view (crew k))
     pub counts : CountsRule (min (counter 2) 32) history (λ k. count_view (crew k))

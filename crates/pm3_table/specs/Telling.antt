@@ -7,7 +7,7 @@ use Rattle.pm3_history.specs.Opens.{LawfulFrom}
 use Rattle.pm3_table.specs.declared.view.Told.{Told}
 use Rattle.pm3_table.specs.declared.view.View.{View}
 use Rattle.pm3_table.specs.Deeds.{IsClearedIn, marks_of}
-use Rattle.pm3_table.specs.Entries.{names_unit, makes, refers, touches, writes}
+use Rattle.pm3_table.specs.Entries.{names_unit, makes, refers, touches, writes, keeps_in}
 use Rattle.pm3_table.specs.Histories.{some_has, NoneHas, by, AllBy}
 use Rattle.pm3_table.specs.Holds.{holds_of, spans_of, is_in}
 use Rattle.pm3_table.specs.Reads.{AllRead}
@@ -91,15 +91,21 @@ pub record IsNewPage (told : Told) (v : View) (p : ℕ) : Type 0 where
 abbrev pub IsAnyNumber : Told → View → ℕ → Type 0
 IsAnyNumber told v n = Unit {0}
 
+-- the page, one of space j, is none that the view knows to be persistent, and a pass that left it in a space was of this one
+pub record IsOnlyIn (told : Told) (v : View) (j p : ℕ) : Type 0 where
+  pub bare : is_steady told v p ≡ false
+  pub kept : (i : ℕ) → some_has (keeps_in i) v.seen p ≡ true → i ≡ j
+
 -- What a view that has seen the whole history knows of itself: the history is lawful, with the failed commits too; its own
--- commits are those that it counts; its drawn names and pages are new; and no page of a space that it holds is persistent.
+-- commits are those that it counts; its drawn names and pages are new; and a page of a space that it holds is in no other, nor
+-- persistent.
 pub record IsSound (told : Told) (v : View) (lost : List Done) : Type 0 where
   pub lawful : Lawful told v.seen
   pub lawful_lost : Lawful told (v.seen ++ lost)
   pub own : v.mine ≡ by v.row v.seen
   pub new_names : (n : ℕ) → is_in n v.names ≡ true → (told.next_name ≤ n) × (some_has makes v.seen n ≡ false)
   pub new_pages : (p : ℕ) → is_in p v.pages ≡ true → (told.frontier ≤ p) × (some_has (names_page told) v.seen p ≡ false)
-  pub apart : (j p : ℕ) → HasInSpace told v j p → is_steady told v p ≡ false
+  pub apart : (j p : ℕ) → HasInSpace told v j p → IsOnlyIn told v j p
 
 -- The commits `more` may join the history that the view has seen, and `failed` be kept as failed beside `lost`.
 pub record MayJoin (told : Told) (v : View) (more failed : List Done) : Type 0 where
@@ -111,4 +117,5 @@ pub record MayJoin (told : Told) (v : View) (more failed : List Done) : Type 0 w
   pub drawn : (n : ℕ) → some_has makes more n ≡ true → is_in n v.names ≡ true
   pub used : (p : ℕ) → some_has (names_page told) more p ≡ true → knows_used told v p ≡ true
   pub cleared : (p : ℕ) → some_has touches more p ≡ true → IsClearedIn told.pages v.log p
+  pub kept : (j p : ℕ) → some_has (keeps_in j) more p ≡ true → HasInSpace told v j p
   pub read : AllRead v.log more

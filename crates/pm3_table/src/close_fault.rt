@@ -3,6 +3,7 @@ use crate::chronicle::Chronicle;
 use crate::shared::{Pass, Shared};
 use atomic_table::Closed;
 use std::alloc::Global;
+use std::fmt;
 
 /// Why the values of a table were not gathered.
 pub enum CloseFault<V: Chronicle> {
@@ -17,4 +18,15 @@ pub enum CloseFault<V: Chronicle> {
     Memory {
         homes: Closed<Option<V>, Global>,
     },
+}
+
+impl<V: Chronicle> fmt::Display for CloseFault<V> {
+    fn fmt<W: fmt::Write>(&self, f: &mut fmt::Formatter<W>) -> fmt::Result {
+        match self {
+            CloseFault::NotAll { made, joined, .. } => {
+                write!(f, "{made} mutators were made, and {joined} of them joined")
+            }
+            CloseFault::Memory { .. } => f.write_str("out of memory"),
+        }
+    }
 }

@@ -6,7 +6,7 @@ ghost use Rattle.pm3_table.specs.Holds.{holds_of, spans_of, is_in};
 ghost use Rattle.pm3_table.specs.Ops.{refused, gave, turned, settled_in, settled_held};
 ghost use Rattle.pm3_table.specs.Passes.{IsOf, Becomes};
 ghost use Rattle.pm3_table.specs.Plays.{Taken};
-ghost use Rattle.pm3_table.specs.Settles.{MaySettle, unmark_log};
+ghost use Rattle.pm3_table.specs.Settles.{MaySettle, unmark_log, MaySettleIn};
 ghost use Rattle.pm3_table.specs.Telling.{Good, spans_in, is_steady, MayJoin};
 ghost use Rattle.pm3_table.specs.Words.{space_unit, turn_unit};
 
@@ -117,7 +117,7 @@ fn turn_at<V: Chronicle, J: Aim>(shared: &Shared<V>, pass: &mut Pass<V>, value: 
 
 fn settle_in_at<V: Chronicle, J: Aim>(shared: &Shared<V>, pass: &mut Pass<V>, page: u32, space: u32)
     requires of { IsOf pass.old shared.now }
-    requires page { (page < shared.now.1.pages) × MaySettle shared.now.1 pass.old.1 page }
+    requires page { (page < shared.now.1.pages) × MaySettleIn shared.now.1 pass.old.1 space page }
     requires space { (space < 32) × (holds_of pass.old.1.holds (space_unit shared.now.1.pages space) ≡ true) }
     requires aim { (J.at ≡ page) × (J.in_row ≡ space_unit shared.now.1.pages space) }
     ensures { Becomes pass.old pass.new (settled_in pass.old.1 page (space_unit shared.now.1.pages space) (unmark_log pass.old.1.log page)) }
@@ -130,10 +130,10 @@ fn settle_in_at<V: Chronicle, J: Aim>(shared: &Shared<V>, pass: &mut Pass<V>, pa
         .store::<SettlesIn<J>>(&mut pass.seat, at, word);
 }
 
-/// A page that was drawn, or is of a held space, becomes a page of this held space, without a mark.
+/// A page that was drawn, or is of this held space already, becomes a page of it, without a mark.
 pub fn settle_volatile<V: Chronicle>(shared: &Shared<V>, pass: &mut Pass<V>, page: u32, space: u32)
     requires of { IsOf pass.old shared.now }
-    requires page { (page < shared.now.1.pages) × MaySettle shared.now.1 pass.old.1 page }
+    requires page { (page < shared.now.1.pages) × MaySettleIn shared.now.1 pass.old.1 space page }
     requires space { (space < 32) × (holds_of pass.old.1.holds (space_unit shared.now.1.pages space) ≡ true) }
     ensures { Becomes pass.old pass.new (settled_in pass.old.1 page (space_unit shared.now.1.pages space) (unmark_log pass.old.1.log page)) }
 {

@@ -55,6 +55,7 @@ module _ {V : Type 0} (stands : Told → List Done → List Done → ℕ → V �
     drawn = λ n is. absurd (cc);
     used = λ p is. absurd (cc);
     cleared = λ p is. absurd (cc);
+    kept = λ j p is. absurd (cc);
     read = tt;
   }
 
@@ -96,6 +97,7 @@ module _ (told : Told) (old new : View) (x : Tally) (is_untold : told.opening �
     drawn = λ n is. absurd (let e : false ≡ true = is in cc);
     used = λ p is. absurd (let e : some_has (names_page told) (nothing_by new.row ∷ []) p ≡ false = nothing_refers told new.row p in differ (sym e ∙ is));
     cleared = λ p is. absurd (let e : false ≡ true = is in cc);
+    kept = λ j p is. absurd (let e : false ≡ true = is in cc);
     read = (tt, tt);
   }
 
