@@ -211,6 +211,7 @@ module _ {D R : Type 0} (g : Ghosts D R) (content : R → Option (List ℕ)) (he
       drawn = λ n is. absurd (false≢true is);
       used = used;
       cleared = λ q is. absurd (false≢true is);
+      kept = λ j q is. absurd (false≢true is);
       read = (tt, tt);
     }
 
@@ -226,5 +227,6 @@ module _ {D R : Type 0} (g : Ghosts D R) (content : R → Option (List ℕ)) (he
       drawn = λ n is. absurd (false≢true is);
       used = λ q is. absurd (false≢true is);
       cleared = λ q is. absurd (false≢true is);
+      kept = λ j q is. absurd (false≢true is);
       read = tt;
     }

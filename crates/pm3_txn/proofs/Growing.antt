@@ -151,6 +151,7 @@ module _ {R : Type 0} (content : R → Option (List ℕ)) (heap : TableId × Tol
         grown = has_grown content heap m (drew_name v n) h h tag was (only_named n) (named n) (λ q e. e) there refl;
         drew = (omega arith, refl);
         filled = refl;
+        held = refl;
         usable = record { drawn = (draws_are_alike v n).3; from = new.from; unmade = new.unmade; unused = unused; low = (let from = new.from in omega (arith, first, from), low) };
         fresh = (unused, new.from, new.unmade);
       }

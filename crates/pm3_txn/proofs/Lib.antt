@@ -67,3 +67,9 @@ pub mod Restored
 pub mod SpaceTaken
 pub mod Growing
 pub mod Made
+pub mod PassPages
+pub mod PassBook
+pub mod PassAfter
+pub mod PassLeads
+pub mod PassWithin
+pub mod PassFollows

@@ -11,7 +11,7 @@ use Rattle.pm3_graph.specs.declared.operations.Op.TheVariants as operation
 use Rattle.pm3_access.specs.Access.{HaveForm}
 use Rattle.pm3_access.specs.Acts.{AreInPlace, IsMakeStep, space_left}
 use Rattle.pm3_access.specs.Holding.{Holding, HeldSpaceState, space_now}
-use Rattle.pm3_access.specs.Making.{IsMade, has_room_for}
+use Rattle.pm3_access.specs.Making.{IsMade, current_image, has_room_for}
 use Rattle.pm3_access.proofs.MoreNames.{get_here}
 use Rattle.pm3_history.specs.Named.{book_of}
 use Rattle.pm3_history.specs.Opens.{Opens}
@@ -102,7 +102,7 @@ none_free (Some s) some none = false≢true (sym (none some.0) ∙ some.1)
 -- room was made
 module _ {R : Type 0} (old : TxnState R) (there : is_some old.held.space ≡ true) where
   pub room_opened : (new : TxnState R) → HasOpenedPage old new → HasMadeRoom old new
-  room_opened new is = record { drawn = 0; grown = is.grown; drew = (is.drew, omega arith); room = is.room }
+  room_opened new is = record { drawn = 0; grown = is.grown; drew = is.drew; why = inl refl; room = is.room }
 
   pub room_memory : (new : TxnState R) (fault : AccessFault) → fault ≡ Memory → new ≡ old → IsShortOfMemory old new fault
   room_memory new fault is same = subst (λ (t : TxnState R). IsShortOfMemory old t fault) (sym same)
@@ -136,7 +136,8 @@ module _ {R : Type 0} (old : TxnState R) (there : is_some old.held.space ≡ tru
       room_drawn new is = record {
         drawn = 1;
         grown = space_both old a new drawn.grown is.grown;
-        drew = (drew_both old a new 0 1 0 0 drawn.drew is.drew, omega arith);
+        drew = drew_both old a new 0 1 0 0 drawn.drew is.drew;
+        why = inr (refl, bare.none);
         room = is.room;
       }
 
@@ -148,13 +149,18 @@ module _ {R : Type 0} (old : TxnState R) (there : is_some old.held.space ≡ tru
           (record { drawn = 1; memory = is; grown = drawn.grown; drew = (drawn.drew, omega arith) })
 
 -- an object was placed
-module _ {R : Type 0} (old : TxnState R) (type tail name : ℕ) where
-  pub placed_first : (new : TxnState R) (a : ℕ) → is_some old.held.space ≡ true → HasNewObject old new type tail name a → HasPlacedObject old new type tail name a
-  placed_first new a there is = record { ready = old; drawn = 0; grown = space_itself old there; drew = ((omega arith, omega arith), omega arith); object = is }
+module _ {R : Type 0} (old : TxnState R) (type tail size name : ℕ) where
+  pub placed_first : (new : TxnState R) (a : ℕ) → is_some old.held.space ≡ true → HasNewObject old new type tail name a → HasPlacedObject old new type tail size name a
+  placed_first new a there is = record { ready = old; drawn = 0; grown = space_itself old there; drew = (omega arith, omega arith); why = inl refl; object = is }
 
-  pub placed_then : (mid a new : TxnState R) (at : ℕ) → mid ≡ old → HasMadeRoom mid a → HasNewObject a new type tail name at → HasPlacedObject old new type tail name at
-  placed_then mid a new at same room is = (let made : HasMadeRoom old a = subst (λ (t : TxnState R). HasMadeRoom t a) same room in
-      record { ready = a; drawn = made.drawn; grown = made.grown; drew = made.drew; object = is })
+  pub placed_then : (mid a new : TxnState R) (at : ℕ) → mid ≡ old → has_room_for (current_image old.held.space) size ≡ false → HasMadeRoom mid a → HasNewObject a new type tail name at
+      → HasPlacedObject old new type tail size name at
+  placed_then mid a new at same full room is = (let made : HasMadeRoom old a = subst (λ (t : TxnState R). HasMadeRoom t a) same room in
+      record { ready = a; drawn = made.drawn; grown = made.grown; drew = made.drew; why = why made.drawn made.why; object = is })
+    where
+      why : (drawn : ℕ) → (drawn ≡ 0) ⊎ ((drawn ≡ 1) × HasNone old.held.space) → (drawn ≡ 0) ⊎ ((drawn ≡ 1) × HasNoRoom old size)
+      why drawn (inl none) = inl none
+      why drawn (inr one) = inr (one.0, record { current = full; free = one.1 })
 
 -- the map of a type of the catalog
 there_is : (catalog : List Fields) (type : ℕ) → type < length catalog → (map : Fields) × (slice_get catalog type ≡ Some map)
@@ -214,7 +220,7 @@ module _ {R : Type 0} (content : R → Option (List ℕ)) (heap : TableId × Tol
 
 -- it is put at a place, and no one marked its page
 module _ {R : Type 0} (old mid named made : TxnState R) (type tail name a : ℕ) (taken : HasTakenSpace old mid) (name_is : HasDrawnName mid named name)
-    (placed : HasPlacedObject named made type tail name a) where
+    (placed : HasPlacedObject named made type tail (size_by (slice_get (told_in named).opening.catalog type) tail) name a) where
   pub has_made : (new : TxnState R) (j : ℕ) → IsPlaced made new j a true → HasMade old new type tail j
   has_made new j put = record {
     mid = mid;
@@ -225,7 +231,8 @@ module _ {R : Type 0} (old mid named made : TxnState R) (type tail name a : ℕ)
     drawn = placed.drawn;
     taken = taken;
     grown = space_both mid named placed.ready name_is.grown placed.grown;
-    drew = (let same : 0 + placed.drawn ≡ placed.drawn = omega arith in subst (Drew mid placed.ready 1) same (drew_both mid named placed.ready 1 0 0 placed.drawn name_is.drew placed.drew.0), placed.drew.1);
+    drew = (let same : 0 + placed.drawn ≡ placed.drawn = omega arith in subst (Drew mid placed.ready 1) same (drew_both mid named placed.ready 1 0 0 placed.drawn name_is.drew placed.drew));
+    why = why placed.drawn placed.why;
     fresh = name_is.fresh;
     object = placed.object;
     placed = put;
@@ -234,6 +241,19 @@ module _ {R : Type 0} (old mid named made : TxnState R) (type tail name a : ℕ)
         (space_both mid named placed.ready name_is.grown placed.grown).goes_on
         (advances_both placed.ready made new (λ st ops. ops ++ (operation.New name type tail, 0) ∷ []) nothing_more (ap (λ (t : TxnState R). t.heap) placed.object.rest) placed.object.goes_on put.goes_on));
   }
+    where
+      room : (heap : TableId × Told) → heap ≡ old.heap → HasNoRoom named (size_by (slice_get heap.1.opening.catalog type) tail) → HasNoRoom mid (size_by (slice_get (told_in old).opening.catalog type) tail)
+      room heap same none = (let here : HasNoRoom named (size_by (slice_get (told_in old).opening.catalog type) tail) =
+          subst (λ (x : TableId × Told). HasNoRoom named (size_by (slice_get x.1.opening.catalog type) tail)) same none in
+          record {
+            current = ap (λ (k : Holding). has_room_for (current_image k.space) (size_by (slice_get (told_in old).opening.catalog type) tail)) (sym name_is.held) ∙ here.current;
+            free = subst (λ (k : Holding). HasNone k.space) name_is.held here.free;
+          })
+
+      why : (drawn : ℕ) → (drawn ≡ 0) ⊎ ((drawn ≡ 1) × HasNoRoom named (size_by (slice_get (told_in named).opening.catalog type) tail))
+          → (drawn ≡ 0) ⊎ ((drawn ≡ 1) × HasNoRoom mid (size_by (slice_get (told_in old).opening.catalog type) tail))
+      why drawn (inl none) = inl none
+      why drawn (inr one) = inr (one.0, room named.heap (name_is.grown.same.heap ∙ taken.same.heap) one.1)
 
 -- nothing was made
 module _ {R : Type 0} (old mid new : TxnState R) (size : ℕ) (taken : HasTakenSpace old mid) where

@@ -29,10 +29,11 @@ use Rattle.pm3_history.proofs.Names.{name_in_graph}
 use Rattle.pm3_table.specs.declared.view.Told.{Told}
 use Rattle.pm3_table.specs.declared.view.View.{View}
 use Rattle.pm3_table.specs.Histories.{some_has}
-use Rattle.pm3_table.specs.Entries.{writes}
+use Rattle.pm3_table.specs.Entries.{keeps_in, writes}
 use Rattle.pm3_table.specs.Holds.{holds_of, spans_of, is_in}
-use Rattle.pm3_table.specs.Telling.{Lawful, IsNewPage, is_steady}
+use Rattle.pm3_table.specs.Telling.{Lawful, IsNewPage, IsOnlyIn, is_steady}
 use Rattle.pm3_table.specs.Words.{space_unit}
+use Rattle.pm3_table.proofs.Known.{kept_named}
 use Rattle.pm3_txn.specs.DrawnLaws.{IsAlike, HasGrown, HoldingsDraw, DrawnNamesAreUnused, FreePagesAreBare, DrawnPagesAreBare, HoldingsReuse, unfreed}
 use Rattle.pm3_txn.specs.Heaps.{IsBelow}
 use Rattle.pm3_txn.specs.Knowing.{is_in_use, state_seen}
@@ -47,13 +48,26 @@ use Rattle.pm3_txn.proofs.OwnerTakes.{persistent_steady}
 use Rattle.pm3_txn.proofs.Seeing.{settled_now}
 use Rattle.pm3_txn.proofs.WorksDraw.{works_free, works_grow, grown_own}
 
+-- a page that no commit seen names is in no space, nor persistent
+pub only_new : (told : Told) (v : View) (j page : ℕ) → IsNewPage told v page → IsOnlyIn told v j page
+only_new told v j page new = record {
+  bare = new.unknown;
+  kept = λ i left. absurd (false≢true (sym new.unnamed ∙ kept_named told i page v.seen left));
+}
+
 -- what is the same of a view that is alike
 module _ (told : Told) (v w : View) (alike : IsAlike v w) where
   pub holds_alike : (u : ℕ) → holds_of w.holds u ≡ holds_of v.holds u
   holds_alike u = λ i. holds_of (alike.holds i) u
 
-  pub steady_alike : (q : ℕ) → is_steady told w q ≡ is_steady told v q
+  steady_alike : (q : ℕ) → is_steady told w q ≡ is_steady told v q
   steady_alike q = λ i. nat_lt q told.frontier || (is_in q (alike.steady i) || some_has writes (alike.seen i) q)
+
+  pub only_alike : (j q : ℕ) → IsOnlyIn told v j q → IsOnlyIn told w j q
+  only_alike j q is = record {
+    bare = steady_alike q ∙ is.bare;
+    kept = λ i left. is.kept i (ap (λ (l : List Done). some_has (keeps_in i) l q) (sym alike.seen) ∙ left);
+  }
 
   pub works_alike : (h : Holding) → WorksOn told v h w h (λ st ops. ops)
   works_alike h st opens done works = subst (λ (l : List Done). Works told.opening.catalog told.pages (now told.opening.catalog BASE st l) h done) (sym alike.seen) works
@@ -76,7 +90,7 @@ module _ (told : Told) (v w : View) (alike : IsAlike v w) where
     free = held.free;
     drawn = held.drawn;
     new = held.new;
-    apart = λ q is. steady_alike q ∙ held.apart q (sym (same q) ∙ is);
+    apart = λ q is. only_alike s.number q (held.apart q (sym (same q) ∙ is));
   }
     where
       same : (q : ℕ) → spans_of w.spans (space_unit told.pages s.number) q ≡ spans_of v.spans (space_unit told.pages s.number) q
@@ -157,7 +171,7 @@ bare_free told v number p (Some s) page holding is =
     let held = holding.space.1 in
     let spread : spans_of v.spans (space_unit told.pages s.number) page ≡ true = held.spans page ∙ or_second (is_some (get s.images.left page)) (set.contains s.free page) is in
     let bounds = held.within page spread in
-    (ap (λ (o : Option PageImage). option_or o (get s.images.left page)) (unheld told v number (record { pages = p; space = Some s }) page holding (held.apart page spread)) ∙ held.free page is, bounds.0, bounds.1)
+    (ap (λ (o : Option PageImage). option_or o (get s.images.left page)) (unheld told v number (record { pages = p; space = Some s }) page holding (held.apart page spread).bare) ∙ held.free page is, bounds.0, bounds.1)
 
 pub free_pages_are_bare : FreePagesAreBare
 free_pages_are_bare told v number h page holding is = bare_free told v number h.pages h.space page holding is
@@ -191,7 +205,7 @@ in_last q x (y ∷ ys) = ap (λ (t : Bool). (y == q) || t) (in_last q x ys) ∙ 
 
 module _ (told : Told) (v w : View) (number : ℕ) (p : HeldImages) (s : HeldSpaceState) (image : PageImage) (free : Numbers) (room : ℕ) (below : IsBelow told) (lawful : Lawful told v.seen) (alike : IsAlike v w)
     (holding : IsHolding told v number (record { pages = p; space = Some s })) (blank : image.sheet ≡ blank_sheet) (absent : image_in (record { pages = p; space = Some s }) image.page ≡ None)
-    (high : 3 ≤ image.page) (low : image.page < told.pages) (loose : is_steady told v image.page ≡ false)
+    (high : 3 ≤ image.page) (low : image.page < told.pages) (only : IsOnlyIn told v s.number image.page)
     (spread : (q : ℕ) → spans_of w.spans (space_unit told.pages s.number) q ≡ (is_some (get (insert s.images.left image.page image) q) || set.contains free q))
     (before : (q : ℕ) → q ≢ image.page → spans_of w.spans (space_unit told.pages s.number) q ≡ spans_of v.spans (space_unit told.pages s.number) q)
     (unfree : set.contains free image.page ≡ false) (fewer : (q : ℕ) → set.contains free q ≡ true → set.contains s.free q ≡ true) where
@@ -218,7 +232,7 @@ module _ (told : Told) (v w : View) (number : ℕ) (p : HeldImages) (s : HeldSpa
   works_grown st opens done works =
       works_alike told v w alike new st opens done
       (works_grow told.opening.catalog told.pages (state_seen told v st) mid done image refl absent blank high
-      (λ a n has. others_are_bare told v image.page a n st below lawful loose opens has)
+      (λ a n has. others_are_bare told v image.page a n st below lawful only.bare opens has)
       (works_free told.opening.catalog told.pages (state_seen told v st) h done (λ t. free) (λ t. room) works))
 
   here : (q : ℕ) → q ≡ image.page → is_some (get (insert s.images.left image.page image) q) ≡ true
@@ -268,10 +282,10 @@ module _ (told : Told) (v w : View) (number : ℕ) (p : HeldImages) (s : HeldSpa
       | inl e ↦ ap (get s.images.found) e ∙ none_of (get s.images.found image.page) unfound.0
       | inr ne ↦ held.new q (sym (old q ne) ∙ is)
     ];
-    apart = λ q is. steady_alike told v w alike q ∙ elim (cases_eq q image.page) [
-      | inl e ↦ ap (is_steady told v) e ∙ loose
+    apart = λ q is. only_alike told v w alike s.number q (elim (cases_eq q image.page) [
+      | inl e ↦ subst (IsOnlyIn told v s.number) (sym e) only
       | inr ne ↦ held.apart q (sym (before q ne) ∙ is)
-    ];
+    ]);
   })
     where
       or_false : (b : Bool) → (b || false) ≡ b

@@ -19,21 +19,21 @@ use Rattle.pm3_history.proofs.Laying.{some_none}
 use Rattle.pm3_table.specs.declared.view.Told.{Told}
 use Rattle.pm3_table.specs.declared.view.View.{View}
 use Rattle.pm3_table.specs.Holds.{spans_of}
-use Rattle.pm3_table.specs.Telling.{IsNewPage, is_steady}
+use Rattle.pm3_table.specs.Telling.{IsNewPage, IsOnlyIn}
 use Rattle.pm3_table.specs.Words.{space_unit}
 use Rattle.pm3_txn.specs.DrawnLaws.{HasGrown, HoldingsFree, HoldingsRoom, IsAlike, with_free_page}
 use Rattle.pm3_txn.specs.Knowing.{is_in_use, state_seen}
 use Rattle.pm3_txn.specs.Owners.{WorksOn, HoldsSpace, IsHolding, own_use}
 use Rattle.pm3_txn.specs.Values as values
 use Rattle.pm3_txn.specs.Works.{is_own_page}
-use Rattle.pm3_txn.proofs.OwnerDraws.{drawn_pages_are_bare, holds_alike, steady_alike, works_alike, persistent_alike, found_alike, units_alike, names_alike}
+use Rattle.pm3_txn.proofs.OwnerDraws.{drawn_pages_are_bare, holds_alike, only_alike, only_new, works_alike, persistent_alike, found_alike, units_alike, names_alike}
 use Rattle.pm3_txn.proofs.WorksDraw.{works_free}
 
 module _ (told : Told) (v w : View) (number : ℕ) (p : HeldImages) (s : HeldSpaceState) (free : Numbers) (room : ℕ) (alike : IsAlike v w) (holding : IsHolding told v number (record { pages = p; space = Some s }))
     (spread : (q : ℕ) → spans_of w.spans (space_unit told.pages s.number) q ≡ (is_some (get s.images.left q) || set.contains free q))
     (within : (q : ℕ) → spans_of w.spans (space_unit told.pages s.number) q ≡ true → (3 ≤ q) × (q < told.pages))
     (bare : (q : ℕ) → set.contains free q ≡ true → get s.images.left q ≡ None)
-    (apart : (q : ℕ) → spans_of w.spans (space_unit told.pages s.number) q ≡ true → is_steady told w q ≡ false) where
+    (apart : (q : ℕ) → spans_of w.spans (space_unit told.pages s.number) q ≡ true → IsOnlyIn told w s.number q) where
   abbrev h : Holding
   h = record { pages = p; space = Some s }
 
@@ -131,10 +131,10 @@ free_by told v w number p (Some s) page room holding new high low alike more =
       | inl e ↦ ap (get s.images.left) e ∙ second (get p.left page) (get s.images.left page) (drawn_pages_are_bare told v number (record { pages = p; space = Some s }) page holding new)
       | inr ne ↦ held.free q (ap (λ (b : Bool). b || set.contains s.free q) (sym (ne_eqb q page ne)) ∙ sym (has q) ∙ is)
     ])
-    (λ q is. steady_alike told v w alike q ∙ elim (cases_eq q page) [
-      | inl e ↦ ap (is_steady told v) e ∙ new.unknown
+    (λ q is. only_alike told v w alike s.number q (elim (cases_eq q page) [
+      | inl e ↦ subst (IsOnlyIn told v s.number) (sym e) (only_new told v s.number page new)
       | inr ne ↦ held.apart q (sym (other q ne) ∙ is)
-    ])
+    ]))
   where
     second : (o u : Option PageImage) → option_or o u ≡ None → u ≡ None
     second None u e = e

@@ -118,7 +118,7 @@ module _ (told : Told) (v w : View) (number : ℕ) (h : Holding) (between : List
 
       quiet : some_has writes (v.seen ++ between) q ≡ false
       quiet = ap (λ (l : List Done). some_has writes l q) (sym far.seen)
-          ∙ steady_parts _ _ (some_has writes w.seen q) (far.apart s.number q (held.1.low, far.holds (space_unit told.pages s.number) held.1.unit, spread))
+          ∙ steady_parts _ _ (some_has writes w.seen q) (far.apart s.number q (held.1.low, far.holds (space_unit told.pages s.number) held.1.unit, spread)).bare
 
       has_both : some_has writes between q ≡ true → some_has writes (v.seen ++ between) q ≡ true
       has_both has = has-append writes v.seen between q ∙ or_second (some_has writes v.seen q) (some_has writes between q) has

@@ -54,7 +54,7 @@ gives_go_further told v w u between free far back = (
     unnamed = far.unnamed;
     holds = λ x held. put_else (holds_of w.holds) u false x (λ e. false≢true (sym free ∙ ap (holds_of v.holds) (sym e) ∙ held)) ∙ far.holds x held;
     spans = far.spans;
-    apart = λ j p is. far.apart j p (is.0, before (space_unit told.pages j) is.1, is.2);
+    apart = λ j p is. (let only = far.apart j p (is.0, before (space_unit told.pages j) is.1, is.2) in record { bare = only.bare; kept = only.kept });
     names = far.names;
     new = far.new;
   },

@@ -26,7 +26,7 @@ use Rattle.pm3_table.specs.declared.view.View.{View}
 use Rattle.pm3_table.specs.Entries.{writes}
 use Rattle.pm3_table.specs.Histories.{some_has}
 use Rattle.pm3_table.specs.Holds.{holds_of, spans_of, is_in}
-use Rattle.pm3_table.specs.Telling.{Lawful, is_steady}
+use Rattle.pm3_table.specs.Telling.{Lawful, IsOnlyIn, is_steady}
 use Rattle.pm3_table.specs.Words.{space_unit}
 use Rattle.pm3_txn.specs.Heaps.{IsBelow}
 use Rattle.pm3_txn.specs.Knowing.{KnowsHome, is_in_use, state_seen}
@@ -180,7 +180,7 @@ module _ (frame : FrameOfRuns) (told : Told) (v w : View) (number : ℕ) (p : He
       by : (o : Option PageImage) → get p.left q ≡ o → get p.left q ≡ None
       by None none = none
       by (Some image) on = absurd (false≢true
-          (sym (far.apart number q (low, taken, spans_now q ∙ or_first (is_some (get space.images q)) (set.contains space.free q) is))
+          (sym (far.apart number q (low, taken, spans_now q ∙ or_first (is_some (get space.images q)) (set.contains space.free q) is)).bare
           ∙ persistent_steady told w q (persistent_then told v w number h between below far holding q (ap is_some on))))
 
   tight : (a : ℕ) → space_use told w.seen space.images a ≡ true → is_memory_reference BASE told.pages a ≡ true
@@ -226,7 +226,8 @@ module _ (frame : FrameOfRuns) (told : Told) (v w : View) (number : ℕ) (p : He
         free = λ q is. (of.free q is).2;
         drawn = λ q. or_none (is_some (get space.images q));
         new = λ q is. absurd (false≢true is);
-        apart = λ q is. far.apart number q (low, taken, ap (λ (n : ℕ). spans_of w.spans (space_unit told.pages n) q) (sym number_is) ∙ is);
+        apart = λ q is. subst (λ (n : ℕ). IsOnlyIn told w n q) (sym number_is)
+            (far.apart number q (low, taken, ap (λ (n : ℕ). spans_of w.spans (space_unit told.pages n) q) (sym number_is) ∙ is));
       },
     );
     form = sound_held_space told.opening.catalog BASE (own_use told w new) h space refl

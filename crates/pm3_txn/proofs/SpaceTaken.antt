@@ -95,7 +95,7 @@ module _ {D R : Type 0} (g : Ghosts D R) (content : R → Option (List ℕ)) (he
     pub own_absent : (page : ℕ) → contains_key space.images page ≡ true → image_in h page ≡ None
     own_absent page on =
         let first : is_in page (pages_of space) ≡ true = pages_in_is space page ∙ ap (λ (b : Bool). b || set.contains space.free page) on in
-        let loose : is_steady heap.1 n.pass.1 page ≡ false = far.apart m.space page (was.mutator.space, holds_it, spread page ∙ first) in
+        let loose : is_steady heap.1 n.pass.1 page ≡ false = (far.apart m.space page (was.mutator.space, holds_it, spread page ∙ first)).bare in
         let alone : get h.pages.left page ≡ None = none_by (get h.pages.left page)
         (λ is. false≢true (sym loose ∙ persistent_steady heap.1 n.pass.1 page (persistent_then heap.1 m.pass.1 n.pass.1 m.space h has.taken.between below far was.holding page is))) in
         (λ i. option_or (alone i) (space_now (none i) page))

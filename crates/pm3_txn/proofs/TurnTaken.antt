@@ -160,6 +160,7 @@ module _ {D R : Type 0} (g : Ghosts D R) (content : R → Option (List ℕ)) (he
       drawn = λ n is. absurd (false≢true is);
       used = λ p is. absurd (false≢true is);
       cleared = λ p is. absurd (false≢true is);
+      kept = λ j p is. absurd (false≢true is);
       read = tt;
     };
   }

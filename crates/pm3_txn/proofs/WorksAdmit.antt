@@ -25,7 +25,7 @@ use Rattle.pm3_history.proofs.Committing.{fits_among}
 use Rattle.pm3_history.proofs.Holding.{shown_alike}
 use Rattle.pm3_history.proofs.Laying.{some_none, off_cases}
 use Rattle.pm3_history.proofs.Persisting.{persistent_fits}
-use Rattle.pm3_txn.specs.Works.{book_with, left_book, found_book, is_own_page, may_hold, without_space}
+use Rattle.pm3_txn.specs.Works.{book_with, left_book, found_book, is_own_object, may_hold, without_space}
 use Rattle.pm3_txn.specs.WorkLaws.{WorksAdmit}
 use Rattle.pm3_txn.proofs.Admitting.{home_form, home_image}
 use Rattle.pm3_txn.proofs.OwnBooks.{get-space_left, found_owned, found_known, with_old}
@@ -64,7 +64,7 @@ works_admit frame catalog pages st h ops image settled absent on home above soun
   where
     below : HasForm catalog (may_hold pages st h) image.page image.sheet
     below = form_for_more catalog (is_memory_reference BASE st.high_page) (may_hold pages st h)
-        (λ a is. or_first (is_memory_reference BASE st.high_page a) (is_memory_reference BASE pages a && is_own_page h (page_in BASE a)) is)
+        (λ a is. or_first (is_memory_reference BASE st.high_page a) (is_memory_reference BASE pages a && is_own_object h a) is)
         image.page image.sheet (home_form catalog st settled pages image.page image.sheet home on sound)
 
     alone_page : (q : ℕ) (sheet : Sheet) → get (alone image) q ≡ Some sheet → q ≡ image.page

@@ -26,10 +26,10 @@ use Rattle.pm3_history.specs.Named.{book_of}
 use Rattle.pm3_history.specs.Persistent.{persistent_book}
 use Rattle.pm3_history.specs.State.{State, all_images}
 use Rattle.pm3_history.proofs.Holding.{shown_alike}
-use Rattle.pm3_history.proofs.Laying.{some_none, there_none}
+use Rattle.pm3_history.proofs.Laying.{some_none, there_none, none_if}
 use Rattle.pm3_txn.specs.Runs.{Runs}
 use Rattle.pm3_txn.specs.TransactionLaws.{IsSettled}
-use Rattle.pm3_txn.specs.Works.{Works, IsOwnName, MakesOf, AllMake, book_with, is_own_page, may_hold}
+use Rattle.pm3_txn.specs.Works.{Works, IsOwnName, MakesOf, AllMake, book_with, is_own_object, may_hold}
 use Rattle.pm3_txn.specs.WorkLaws.{WorksBegin, WorksAlone}
 use Rattle.pm3_txn.proofs.Admitting.{home_named, book_named}
 use Rattle.pm3_txn.proofs.OwnBooks.{AreOver, own_on, with_old}
@@ -43,6 +43,9 @@ nothing_found q = nothing_in_place.found q (nothing_there q)
 
 pub no_own : (a n : ℕ) → get (book_of BASE empty) a ≡ Some n → ⊥
 no_own a n has = there_none (get empty (page_in BASE a)) (own_on empty a n has) (get-empty nat_cmp (page_in BASE a))
+
+pub no_own_object : (a : ℕ) → is_some (get (book_of BASE empty) a) ≡ false
+no_own_object a = ap is_some (none_if (get (book_of BASE empty) a) (λ n has. no_own a n has))
 
 pub works_begin : WorksBegin
 works_begin catalog pages st settled = record {
@@ -99,7 +102,7 @@ alone_by catalog pages st p None ops settled none works = record {
   alone = refl;
   places = works.places;
   sound = λ page image on. form_for_more catalog (may_hold pages st h) (is_memory_reference BASE st.high_page)
-      (λ a is. first_of (is_memory_reference BASE st.high_page a) (is_memory_reference BASE pages a) (is_own_page h (page_in BASE a)) refl is)
+      (λ a is. first_of (is_memory_reference BASE st.high_page a) (is_memory_reference BASE pages a) (is_own_object h a) (no_own_object a) is)
       image.page image.sheet (works.sound page image on);
   fits = fits;
   last = works.last;

@@ -36,11 +36,11 @@ use Rattle.pm3_history.specs.Persistent.{persistent_book}
 use Rattle.pm3_history.specs.State.{State}
 use Rattle.pm3_history.proofs.Laying.{one_value, some_none}
 use Rattle.pm3_txn.specs.TransactionLaws.{IsSettled}
-use Rattle.pm3_txn.specs.Works.{Works, IsOwnName, MakesOf, AllMake, left_book, found_book, book_with, is_own_page, may_hold, without_space}
+use Rattle.pm3_txn.specs.Works.{Works, IsOwnName, MakesOf, AllMake, left_book, found_book, book_with, is_own_object, may_hold, without_space}
 use Rattle.pm3_txn.specs.WorkLaws.{ObjectsAreHeld, WorksRead, WorksWrite, WorksReadRoot, WorksWriteRoot}
 use Rattle.pm3_txn.proofs.Admitting.{narrow, known_below}
 use Rattle.pm3_txn.proofs.Changing.{IsChange, rooted_change, changed_found, run_goes_on}
-use Rattle.pm3_txn.proofs.OwnBooks.{with_own, with_cases, own_on, get-space_left}
+use Rattle.pm3_txn.proofs.OwnBooks.{with_own, with_cases}
 use Rattle.pm3_txn.proofs.WorksGo.{all_map}
 use Rattle.pm3_txn.proofs.WorksOwn.{alone_still, found_still, space_found_still, last_still, own_page_still, own_still}
 
@@ -140,7 +140,7 @@ module _ (catalog : List Fields) (pages : ℕ) (st : State) (h : Holding) (ops :
             ∙ ap (shown catalog BASE (found_book st h)) found
 
         still : (a : ℕ) → may_hold pages st h a ≡ true → may_hold pages st new a ≡ true
-        still a is = ap (λ (b : Bool). is_memory_reference BASE st.high_page a || (is_memory_reference BASE pages a && b)) (own_page_still h page image now there (page_in BASE a)) ∙ is
+        still a is = ap (λ (b : Bool). is_memory_reference BASE st.high_page a || (is_memory_reference BASE pages a && b)) (ap (λ (b : Book). is_some (get b a)) own) ∙ is
 
         none_still : (q : ℕ) → space_now h.space q ≡ None → space_now new.space q ≡ None
         none_still q none = by (space_now new.space q) (own_page_still h page image now there q ∙ ap is_some none)
@@ -151,25 +151,18 @@ module _ (catalog : List Fields) (pages : ℕ) (st : State) (h : Holding) (ops :
 
   -- what it knows may be written to a page that is held alone
   known_may : IsSettled catalog st → (v : ℕ) → IsKnown (left_book st h) v → is_memory_reference BASE pages v ≡ true → may_hold pages st h v ≡ true
-  known_may settled v known form = may_by (is_memory_reference BASE st.high_page v) (is_memory_reference BASE pages v) (is_own_page h (page_in BASE v)) (by known)
+  known_may settled v known form = may_by (is_memory_reference BASE st.high_page v) (is_memory_reference BASE pages v) (is_own_object h v) (by known)
     where
-      own_page : (n : ℕ) → get (book_of BASE (space_left h.space)) v ≡ Some n → is_own_page h (page_in BASE v) ≡ true
-      own_page n has = some (space_now h.space (page_in BASE v)) (sym (ap is_some (get-space_left h.space (page_in BASE v))) ∙ own_on (space_left h.space) v n has)
-        where
-          some : (o : Option PageImage) → is_some (sheet_in o) ≡ true → is_some o ≡ true
-          some None e = e
-          some (Some x) e = refl
-
       which : (n : ℕ) → (get (book_of BASE (space_left h.space)) v ≡ Some n) ⊎ ((get (book_of BASE (space_left h.space)) v ≡ None) × (get (persistent_book BASE st) v ≡ Some n))
-          → (is_memory_reference BASE st.high_page v ≡ true) ⊎ ((is_memory_reference BASE pages v ≡ true) × (is_own_page h (page_in BASE v) ≡ true))
-      which n (inl own) = inr (form, own_page n own)
+          → (is_memory_reference BASE st.high_page v ≡ true) ⊎ ((is_memory_reference BASE pages v ≡ true) × (is_own_object h v ≡ true))
+      which n (inl own) = inr (form, ap is_some own)
       which n (inr old) = inl (narrow BASE pages st.high_page v form (known_below catalog st settled v (inr (ap is_some old.1))))
 
       some_name : (o : Option ℕ) → get (left_book st h) v ≡ o → is_some o ≡ true → (n : ℕ) × (get (left_book st h) v ≡ Some n)
       some_name None is e = absurd (cc e)
       some_name (Some n) is e = (n, is)
 
-      by : IsKnown (left_book st h) v → (is_memory_reference BASE st.high_page v ≡ true) ⊎ ((is_memory_reference BASE pages v ≡ true) × (is_own_page h (page_in BASE v) ≡ true))
+      by : IsKnown (left_book st h) v → (is_memory_reference BASE st.high_page v ≡ true) ⊎ ((is_memory_reference BASE pages v ≡ true) × (is_own_object h v ≡ true))
       by (inl nil) = inl (narrow BASE pages st.high_page v form (inl nil))
       by (inr is) = (let named = some_name (get (left_book st h) v) refl is in which named.0 (with_cases st (space_left h.space) v named.0 named.1))
 

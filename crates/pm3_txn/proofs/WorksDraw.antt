@@ -32,7 +32,7 @@ use Rattle.pm3_history.specs.Persistent.{persistent_book}
 use Rattle.pm3_history.specs.State.{State}
 use Rattle.pm3_history.proofs.Laying.{some_none, there_none, one_value}
 use Rattle.pm3_history.proofs.NamedOn.{book_of_named, book_of_has}
-use Rattle.pm3_txn.specs.Works.{Works, IsOwnName, left_book, found_book, is_own_page, may_hold}
+use Rattle.pm3_txn.specs.Works.{Works, IsOwnName, left_book, found_book, is_own_object, may_hold}
 use Rattle.pm3_txn.specs.WorkLaws.{WorksGrow, WorksFree}
 use Rattle.pm3_txn.proofs.OwnBooks.{own_on, with_cases}
 use Rattle.pm3_txn.proofs.WorksGo.{all_map}
@@ -131,18 +131,12 @@ module _ (p : HeldImages) (s : HeldSpaceState) (image : PageImage) (absent : ima
     left_off : get (left_images h) image.page ≡ None
     left_off = get-left_images h image.page ∙ ap sheet_in absent
 
-    own_page : (q : ℕ) → is_own_page h q ≡ true → is_own_page new q ≡ true
-    own_page q is = elim (cases_eq q image.page) [
-      | inl e ↦ ap is_some (images_at.get_same s.images.left image.page q image e)
-      | inr ne ↦ ap is_some (images_at.get_other s.images.left image.page q image ne) ∙ is
-    ]
-
     pub grown_more : Works catalog pages st new ops
     grown_more = record {
       places = grown_in_place h works.places image absent;
       form = sound_grown catalog BASE (is_memory_reference BASE pages) h image blank high works.form;
       sound = λ q x on. form_for_more catalog (may_hold pages st h) (may_hold pages st new)
-          (λ a. or_up (is_memory_reference BASE st.high_page a) (is_memory_reference BASE pages a) (is_own_page h (page_in BASE a)) (is_own_page new (page_in BASE a)) (own_page (page_in BASE a)))
+          (λ a. or_up (is_memory_reference BASE st.high_page a) (is_memory_reference BASE pages a) (is_own_object h a) (is_own_object new a) (λ is. ap (λ (b : Book). is_some (get b a)) grown_own ∙ is))
           x.page x.sheet (works.sound q x on);
       fits = subst (λ (b : Book). FitsImages catalog BASE b (left_images new)) (sym book)
           (subst (FitsImages catalog BASE (left_book st h)) (sym drawn) (blank_fits catalog BASE (left_book st h) (left_images h) image.page left_off apart_two away_book works.fits));

@@ -30,7 +30,7 @@ use Rattle.pm3_history.proofs.Laying.{off_cases}
 use Rattle.pm3_history.proofs.Spacing.{spaces_stand}
 use Rattle.pm3_history.proofs.Sparing.{persistent_are_written}
 use Rattle.pm3_txn.specs.TransactionLaws.{IsSettled}
-use Rattle.pm3_txn.specs.Works.{IsLastSpace, IsOwnName, MakesOf, AllMake, left_book, found_book, is_own_page, may_hold}
+use Rattle.pm3_txn.specs.Works.{IsLastSpace, IsOwnName, MakesOf, AllMake, left_book, found_book, is_own_object, may_hold}
 use Rattle.pm3_txn.specs.WorkLaws.{NoneOf, WorksGoOn}
 use Rattle.pm3_txn.proofs.Going.{high_rises}
 use Rattle.pm3_txn.proofs.Seeing.{settled_after}
@@ -90,7 +90,7 @@ works_go_on catalog pages st h ops more settled are unwritten bare none fresh wo
     after = now catalog BASE st more
 
     rises : (a : ℕ) → may_hold pages st h a ≡ true → may_hold pages after h a ≡ true
-    rises a = or_either (is_memory_reference BASE st.high_page a) (is_memory_reference BASE pages a && is_own_page h (page_in BASE a)) (is_memory_reference BASE after.high_page a)
+    rises a = or_either (is_memory_reference BASE st.high_page a) (is_memory_reference BASE pages a && is_own_object h a) (is_memory_reference BASE after.high_page a)
         (reference_for_more BASE st.high_page after.high_page a (high_rises catalog pages st more are))
 
     space_after : (s : Option HeldSpaceState) → NoneOf more s → IsLastSpace st s → IsLastSpace after s

@@ -31,11 +31,11 @@ use Rattle.pm3_history.specs.Laid.{laid}
 use Rattle.pm3_history.specs.Named.{IsNamedOn, book_of}
 use Rattle.pm3_history.specs.Persistent.{persistent_book}
 use Rattle.pm3_history.specs.State.{State}
-use Rattle.pm3_history.proofs.Laying.{some_none, there_none, one_value, get-laid, laid_none}
+use Rattle.pm3_history.proofs.Laying.{some_of, some_none, there_none, one_value, get-laid, laid_none}
 use Rattle.pm3_history.proofs.NamedOn.{book_of_named, book_of_has}
 use Rattle.pm3_history.proofs.Names.{name_in_graph}
 use Rattle.pm3_txn.specs.TransactionLaws.{IsSettled}
-use Rattle.pm3_txn.specs.Works.{Works, IsOwnName, left_book, found_book, book_with, is_own_page, may_hold}
+use Rattle.pm3_txn.specs.Works.{Works, IsOwnName, left_book, found_book, book_with, is_own_object, may_hold}
 use Rattle.pm3_txn.specs.WorkLaws.{WorksMake}
 use Rattle.pm3_txn.proofs.Admitting.{book_named}
 use Rattle.pm3_txn.proofs.Changing.{changed_found, run_goes_on}
@@ -277,8 +277,8 @@ module _ (catalog : List Fields) (pages : ℕ) (st : State) (h new : Holding) (o
     places = places_now;
     form = subst (AreSound catalog BASE pages) (sym put.is) form_now;
     sound = λ q x on. form_for_more catalog (may_hold pages st h) (may_hold pages st (changed h put.page now))
-        (λ b. or_up (is_memory_reference BASE st.high_page b) (is_memory_reference BASE pages b) (is_own_page h (page_in BASE b)) (is_own_page (changed h put.page now) (page_in BASE b))
-        (λ is. own_page_still h put.page put.image now put.there (page_in BASE b) ∙ is))
+        (λ b. or_up (is_memory_reference BASE st.high_page b) (is_memory_reference BASE pages b) (is_own_object h b) (is_own_object (changed h put.page now) b)
+        (λ is. let was = some_of (get (book_of BASE (space_left h.space)) b) is in ap is_some (own_kept b was.0 was.1)))
         x.page x.sheet (works.sound q x (ap (λ (p : HeldImages). image_in (record { pages = p; space = None }) q) (sym same_pages) ∙ on));
     fits = subst (λ (b : Book). FitsImages catalog BASE b (left_images (changed h put.page now))) (sym book) fits_now;
     last = λ q sheet is. works.last q sheet (ap (λ (m : Images). get m q) (sym found) ∙ is);

@@ -32,11 +32,11 @@ use Rattle.pm3_history.proofs.Committing.{fits_among}
 use Rattle.pm3_history.proofs.Holding.{shown_alike}
 use Rattle.pm3_history.proofs.Laying.{some_none, there_none, none_if, off_cases}
 use Rattle.pm3_txn.specs.TransactionLaws.{IsSettled}
-use Rattle.pm3_txn.specs.Works.{Works, IsOwnName, AllMake, book_with, is_own_page, may_hold}
+use Rattle.pm3_txn.specs.Works.{Works, IsOwnName, AllMake, book_with, is_own_object, may_hold}
 use Rattle.pm3_txn.specs.WorkLaws.{WorksTakeSpace}
 use Rattle.pm3_txn.proofs.Admitting.{home_image}
 use Rattle.pm3_txn.proofs.OwnBooks.{AreOver, last_owner, last_image, found_known, with_old}
-use Rattle.pm3_txn.proofs.WorksBegin.{no_own, book_empty}
+use Rattle.pm3_txn.proofs.WorksBegin.{no_own_object, no_own, book_empty}
 use Rattle.pm3_txn.proofs.WorksFound.{left_over, found_over, found_fits}
 use Rattle.pm3_txn.proofs.WorksGo.{all_map}
 use Rattle.pm3_txn.proofs.WorksGrow.{grown_run, shows_no_new, with_fits}
@@ -54,10 +54,10 @@ roots_found catalog found_by left_by h found none = of (get (left_images h) 2) r
     of None off = ap (roots_in catalog BASE found_by (found_images h)) (found 2 (no_image (image_in h 2) (sym (get-left_images h 2) ∙ off)))
     of (Some sheet) has = absurd (some_none (roots_in catalog BASE left_by (left_images h) (get (left_images h) 2)) _ (ap (roots_in catalog BASE left_by (left_images h)) has) none)
 
-or_more : (a b c : Bool) → (a || (b && false)) ≡ true → (a || (b && c)) ≡ true
-or_more true b c is = refl
-or_more false true c is = absurd (cc is)
-or_more false false c is = absurd (cc is)
+or_more : (a b c d : Bool) → d ≡ false → (a || (b && d)) ≡ true → (a || (b && c)) ≡ true
+or_more true b c d none is = refl
+or_more false true c d none is = absurd (cc)
+or_more false false c d none is = absurd (cc is)
 
 -- of a transaction that holds these pages alone
 module _ (frame : FrameOfRuns) (catalog : List Fields) (pages : ℕ) (st : State) (settled : IsSettled catalog st) (p : HeldImages) (ops : List (Op × ℕ)) (space : SpaceState)
@@ -153,7 +153,7 @@ module _ (frame : FrameOfRuns) (catalog : List Fields) (pages : ℕ) (st : State
       places = space_in_place h works.places space refl (λ page image on. at_home page image on) absent;
       form = sound_held_space catalog BASE (is_memory_reference BASE pages) h space refl form works.form;
       sound = λ page image on. form_for_more catalog (may_hold pages st h) (may_hold pages st new)
-          (λ a. or_more (is_memory_reference BASE st.high_page a) (is_memory_reference BASE pages a) (is_own_page new (page_in BASE a))) image.page image.sheet (works.sound page image on);
+          (λ a. or_more (is_memory_reference BASE st.high_page a) (is_memory_reference BASE pages a) (is_own_object new a) (is_own_object h a) (no_own_object a)) image.page image.sheet (works.sound page image on);
       fits = fits_joined catalog BASE (book_with st own) (left_images h) own (left_images new) left_joined left_fits own_fits;
       last = last;
       held = works.held;

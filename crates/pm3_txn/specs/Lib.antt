@@ -38,3 +38,4 @@ pub mod Committing
 pub mod Making
 pub mod Spaces
 pub mod Closing
+pub mod PassCommits

@@ -121,7 +121,7 @@ pub record HasNewObject {R : Type 0} (old new : TxnState R) (type tail name a : 
   pub goes_on : Advances old new (λ st ops. ops ++ (operation.New name type tail, 0) ∷ [])
 
 -- An object was made, under a name that was drawn for it, and its reference put at place j of the row. The space was taken where it
--- was not held. At most one page was drawn.
+-- was not held. A page was drawn only where none of the space had room for it.
 pub record HasMade {R : Type 0} (old new : TxnState R) (type tail j : ℕ) : Type 0 where
   pub mid : TxnState R
   pub ready : TxnState R
@@ -131,7 +131,8 @@ pub record HasMade {R : Type 0} (old new : TxnState R) (type tail j : ℕ) : Typ
   pub drawn : ℕ
   pub taken : HasTakenSpace old mid
   pub grown : HasGrownSpace mid ready
-  pub drew : Drew mid ready 1 drawn × (drawn ≤ 1)
+  pub drew : Drew mid ready 1 drawn
+  pub why : (drawn ≡ 0) ⊎ ((drawn ≡ 1) × HasNoRoom mid (size_by (slice_get (told_in old).opening.catalog type) tail))
   pub fresh : HasNoName (told_in mid) mid.held name × ((told_in mid).next_name ≤ name) × (some_has makes (view_in mid).seen name ≡ false)
   pub object : HasNewObject ready made type tail name address
   pub placed : IsPlaced made new j address true

@@ -22,7 +22,7 @@ use Rattle.pm3_table.specs.declared.view.View.{View}
 use Rattle.pm3_table.specs.Entries.{makes}
 use Rattle.pm3_table.specs.Histories.{some_has}
 use Rattle.pm3_table.specs.Holds.{holds_of, spans_of, is_in}
-use Rattle.pm3_table.specs.Telling.{Lawful, NoneNames, HasInSpace, is_steady}
+use Rattle.pm3_table.specs.Telling.{Lawful, NoneNames, HasInSpace, IsOnlyIn, is_steady}
 use Rattle.pm3_table.specs.Words.{space_unit}
 use Rattle.pm3_txn.specs.Heaps.{IsBelow}
 use Rattle.pm3_txn.specs.Knowing.{KnowsHome, KnowsReference, state_seen}
@@ -51,8 +51,8 @@ SpacesAreLast = (told : Told) (h : List Done) (u : ℕ) (space : SpaceState) (st
 abbrev pub UnnamedHaveNone : Type 0
 UnnamedHaveNone = (told : Told) (between : List Done) (number : ℕ) → NoneNames told between (space_unit told.pages number) → NoneOfSpace between number
 
--- What stays of one view in another that has seen more commits: it holds the same, its spaces have the same pages, of which none is
--- known to be persistent, and the names that it has drawn are new.
+-- What stays of one view in another that has seen more commits: it holds the same, its spaces have the same pages, each in no other
+-- space and not persistent, and the names that it has drawn are new.
 pub record GoesFurther (told : Told) (v w : View) (between : List Done) : Type 0 where
   pub seen : w.seen ≡ v.seen ++ between
   pub lawful : Lawful told w.seen
@@ -60,7 +60,7 @@ pub record GoesFurther (told : Told) (v w : View) (between : List Done) : Type 0
   pub holds : (u : ℕ) → holds_of v.holds u ≡ true → holds_of w.holds u ≡ true
   pub spans : (j p : ℕ) → holds_of v.holds (space_unit told.pages j) ≡ true
       → spans_of w.spans (space_unit told.pages j) p ≡ spans_of v.spans (space_unit told.pages j) p
-  pub apart : (j p : ℕ) → HasInSpace told w j p → is_steady told w p ≡ false
+  pub apart : (j p : ℕ) → HasInSpace told w j p → IsOnlyIn told w j p
   pub names : w.names ≡ v.names
   pub new : (n : ℕ) → is_in n w.names ≡ true → (told.next_name ≤ n) × (some_has makes w.seen n ≡ false)
 

@@ -22,7 +22,7 @@ use Rattle.pm3_table.specs.declared.view.Told.{Told}
 use Rattle.pm3_table.specs.declared.view.View.{View}
 use Rattle.pm3_table.specs.Deeds.{word_of}
 use Rattle.pm3_table.specs.Holds.{holds_of, spans_of, is_in}
-use Rattle.pm3_table.specs.Telling.{is_steady}
+use Rattle.pm3_table.specs.Telling.{IsOnlyIn}
 use Rattle.pm3_table.specs.Words.{space_unit}
 use Rattle.pm3_txn.specs.Answers.{with_step}
 use Rattle.pm3_txn.specs.Knowing.{KnowsWord, is_in_use, state_seen}
@@ -41,7 +41,7 @@ abbrev pub own_use : Told → View → Holding → ℕ → Bool
 own_use told v h a = is_in_use told v.seen a || (is_memory_reference BASE told.pages a && is_own_page h (page_in BASE a))
 
 -- The view holds the space, which was found with its last images. Its pages are those with an image or free ones, as the view
--- says, and none of them is persistent. Pages drawn since have an image now and had none.
+-- says, and each is in no other space and not persistent. Pages drawn since have an image now and had none.
 pub record HoldsSpace (told : Told) (v : View) (s : HeldSpaceState) : Type 0 where
   pub low : s.number < 32
   pub unit : holds_of v.holds (space_unit told.pages s.number) ≡ true
@@ -53,7 +53,7 @@ pub record HoldsSpace (told : Told) (v : View) (s : HeldSpaceState) : Type 0 whe
   pub free : (page : ℕ) → set.contains s.free page ≡ true → get s.images.left page ≡ None
   pub drawn : (page : ℕ) → is_some (get s.images.left page) ≡ (is_some (get s.images.found page) || is_in page s.drawn)
   pub new : (page : ℕ) → is_in page s.drawn ≡ true → get s.images.found page ≡ None
-  pub apart : (page : ℕ) → spans_of v.spans (space_unit told.pages s.number) page ≡ true → is_steady told v page ≡ false
+  pub apart : (page : ℕ) → spans_of v.spans (space_unit told.pages s.number) page ≡ true → IsOnlyIn told v s.number page
 
 -- of a space, which has this number, or of none
 abbrev pub MayHoldSpace : Told → View → ℕ → Option HeldSpaceState → Type 0

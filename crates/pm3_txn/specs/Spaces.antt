@@ -1,5 +1,5 @@
 -- What a transaction does to the space that it holds.
-use Rattle.std.specs.Prelude.{ℕ, ◌≡◌, ◌^◌, ◌≤◌, Bool, true, false, ◌∷◌, Option}
+use Rattle.std.specs.Prelude.{ℕ, ◌≡◌, ◌⊎◌, ◌^◌, ◌≤◌, Bool, true, false, ◌∷◌, Option}
 use Rattle.std.specs.FinSet as set
 use Rattle.pm3_access.specs.Holding.{HeldSpaceState, FreeIs}
 use Rattle.pm3_access.specs.Making.{current_image, has_room_for}
@@ -18,6 +18,7 @@ pub record HasDrawnName {R : Type 0} (old new : TxnState R) (name : ℕ) : Type 
   pub drew : Drew old new 1 0
   pub filled : (view_in new).filled ≡ (view_in old).filled
   pub usable : IsUsableName (told_in new) (view_in new) new.held name
+  pub held : new.held ≡ old.held
   pub fresh : HasNoName (told_in old) old.held name × ((told_in old).next_name ≤ name) × (some_has makes (view_in old).seen name ≡ false)
 
 -- none was left
@@ -65,11 +66,12 @@ abbrev pub HasTriedToOpen : {R : Type 0} → TxnState R → TxnState R → Bool 
 HasTriedToOpen old new true = HasOpenedPage old new
 HasTriedToOpen old new false = HasNoFree old new
 
--- a page has room, which was free or was drawn
+-- a page has room: one that was free, or where none was one that was drawn
 pub record HasMadeRoom {R : Type 0} (old new : TxnState R) : Type 0 where
   pub drawn : ℕ
   pub grown : HasGrownSpace old new
-  pub drew : Drew old new 0 drawn × (drawn ≤ 1)
+  pub drew : Drew old new 0 drawn
+  pub why : (drawn ≡ 0) ⊎ ((drawn ≡ 1) × HasNone old.held.space)
   pub room : (size : ℕ) → size ≤ 510 → has_room_for (current_image new.held.space) size ≡ true
 
 -- there was no memory; at most a page was drawn
@@ -87,10 +89,11 @@ pub record IsOutOfPages {R : Type 0} (old new : TxnState R) (size : ℕ) (fault 
   pub filled : (view_in new).filled ≡ 0 ∷ (view_in old).filled
   pub none : has_room_for (current_image old.held.space) size ≡ false → HasNoRoom new size
 
--- an object was placed, where there was room or some was made
-pub record HasPlacedObject {R : Type 0} (old new : TxnState R) (type tail name a : ℕ) : Type 0 where
+-- an object of so many words was placed, where there was room or some was made; a page was drawn only where none had room
+pub record HasPlacedObject {R : Type 0} (old new : TxnState R) (type tail size name a : ℕ) : Type 0 where
   pub ready : TxnState R
   pub drawn : ℕ
   pub grown : HasGrownSpace old ready
-  pub drew : Drew old ready 0 drawn × (drawn ≤ 1)
+  pub drew : Drew old ready 0 drawn
+  pub why : (drawn ≡ 0) ⊎ ((drawn ≡ 1) × HasNoRoom old size)
   pub object : HasNewObject ready new type tail name a

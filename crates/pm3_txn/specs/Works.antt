@@ -35,10 +35,14 @@ found_book st h = book_with st (space_found h.space)
 abbrev pub is_own_page : Holding → ℕ → Bool
 is_own_page h page = is_some (space_now h.space page)
 
--- what a page that is held alone may refer to: what lies below the high page, and what is on a page of the space
+-- an object of the space that is held begins at the address
+abbrev pub is_own_object : Holding → ℕ → Bool
+is_own_object h a = is_some (get (book_of BASE (space_left h.space)) a)
+
+-- what a page that is held alone may refer to: what lies below the high page, and objects of the space
 abbrev pub may_hold : ℕ → State → Holding → ℕ → Bool
 may_hold pages st h a =
-    is_memory_reference BASE st.high_page a || (is_memory_reference BASE pages a && is_own_page h (page_in BASE a))
+    is_memory_reference BASE st.high_page a || (is_memory_reference BASE pages a && is_own_object h a)
 
 -- what is held without the space
 abbrev pub without_space : Holding → Holding

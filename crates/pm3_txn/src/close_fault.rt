@@ -4,6 +4,7 @@ use crate::mutator::Mutator;
 use crate::values::Value;
 use pm3_disk::Disk;
 use pm3_table::Pass;
+use std::fmt;
 
 /// Why a heap was not closed.
 #[derive(Drop)]
@@ -21,6 +22,17 @@ pub enum HeapCloseFault<D: Disk> {
         journal: D,
         reader: D::Reader,
     },
+}
+
+impl<D: Disk> fmt::Display for HeapCloseFault<D> {
+    fn fmt<W: fmt::Write>(&self, f: &mut fmt::Formatter<W>) -> fmt::Result {
+        match self {
+            HeapCloseFault::NotAll { made, joined, .. } => {
+                write!(f, "{made} mutators were made, and {joined} joined back")
+            }
+            HeapCloseFault::Memory { .. } => write!(f, "there is no memory for the store's images"),
+        }
+    }
 }
 
 /// The same of the table of a heap.

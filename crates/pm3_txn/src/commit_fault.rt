@@ -3,6 +3,7 @@ use crate::mutator::Mutator;
 use crate::transaction::Txn;
 use pm3_disk::Disk;
 use pm3_table::{Limit, Unit};
+use std::fmt;
 use thiserror::Error;
 
 /// Why a commit was refused before anything was written: the transaction goes on.
@@ -46,4 +47,13 @@ pub enum CommitFault<'h, D: Disk> {
         cause: CommitEnd,
         mutator: Mutator<D>,
     },
+}
+
+impl<D: Disk> fmt::Display for CommitFault<'_, D> {
+    fn fmt<W: fmt::Write>(&self, f: &mut fmt::Formatter<W>) -> fmt::Result {
+        match self {
+            CommitFault::Refused { cause, .. } => write!(f, "{cause}"),
+            CommitFault::Ended { cause, .. } => write!(f, "{cause}"),
+        }
+    }
 }

@@ -15,12 +15,10 @@ ghost use Rattle.pm3_txn.specs.Frontiers.{IsTop, Below, IsPlaceNamed, IsObjectNa
 use pm3_core::PAGE_BYTES;
 use pm3_disk::Disk;
 use pm3_journal::Opened;
-use pm3_page::{Addr, BASE, Image, Pages};
+use pm3_page::{Addr, BASE, Image, Pages, ROOTS_PAGE};
 use pm3_types::{Catalog, Tail, TypeMap};
 
-/// The page of the roots, and the number of root slots.
-const ROOTS_PAGE: u32 = 2;
-
+/// The number of root slots.
 const ROOT_SLOTS: u32 = 16;
 
 /// The frontier of a heap over an open store: the greatest of the high page and one above each page that the opened images have

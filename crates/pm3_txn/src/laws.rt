@@ -1,4 +1,5 @@
 //! What is proved of transactions as values.
+ghost use Rattle.pm3_txn.specs.PassCommits.{PassesFollow, SpacePagesMayGo};
 ghost use Rattle.pm3_txn.specs.TransactionLaws.{TransactionsBegin, PagesAreAdmitted, ObjectsAreThere, ReadsGoOn, ReadsAreKnown, WritesGoOn, RootReadsGoOn, RootWritesGoOn, TransactionsGoOn, TransactionsCommit};
 ghost use Rattle.pm3_txn.specs.OwnerLaws.{NewNamesAreNew, OthersAreBare, SpacesAreLast, UnnamedHaveNone, HoldingsBegin, HoldingsAlone, HoldingsGoOn, HoldingsTakePages, HoldingsTakeSpaces, KnownAreHere, HoldingsRead, HoldingsWrite, HoldingsReadRoot, HoldingsWriteRoot};
 ghost use Rattle.pm3_txn.specs.DrawnLaws.{HoldingsDraw, DrawnNamesAreUnused, FreePagesAreBare, DrawnPagesAreBare, HoldingsReuse, HoldingsFree, HoldingsRoom, HoldingsMake, HoldingsUndo};
@@ -90,6 +91,17 @@ pub fn drawn_law()
     ensures makes { HoldingsMake }
     ensures undone { HoldingsUndo }
 {}
+
+/// The commit of a transaction that holds its space, once its pass was carried out, is one of that transaction, and may follow the
+/// state with its pass (`follows`). Of each page of the space the view knows that the space had it, or that it may be drawn
+/// (`pages`).
+pub fn pass_law()
+    ensures follows { PassesFollow }
+    ensures pages { SpacePagesMayGo }
+{
+    pm3_copy::carried_law();
+    pm3_copy::quiet_law();
+}
 
 /// What the table's steps make of a view: it goes further with a unit that it takes (`takes`) and gives back (`gives`), and is alike
 /// once it drew (`draws`), or settled a page in a space, which has that page then (`settles`).

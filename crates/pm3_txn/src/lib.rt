@@ -12,7 +12,8 @@
 //! operation, and a commit all of them at once, behind those of all commits before it (`HasCommitted`).
 #![tactic(auto)]
 
-// Values of slots, the heap, and the token of one mutator.
+// Values of slots, the heap, the token of one mutator, and that threads may have these.
+mod crossing;
 mod heap;
 mod mutator;
 mod values;
@@ -69,7 +70,7 @@ pub use commit_fault::{CommitEnd, CommitFault, CommitRefusal};
 pub use crew::FreshFault;
 pub use faults::AccessFault;
 pub use heap::Heap;
-pub use laws::{drawn_law, holding_law, owner_law, step_law, transaction_law, works_law};
+pub use laws::{drawn_law, holding_law, owner_law, pass_law, step_law, transaction_law, works_law};
 pub use mutator::{Mutator, Tag};
 pub use start::StartFault;
 pub use transaction::Txn;

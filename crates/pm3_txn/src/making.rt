@@ -49,7 +49,7 @@ impl<D: Disk> Txn<'_, D> {
         requires name { IsUsableName (told_in self.old) (view_in self.old) self.old.held name }
         requires space { is_some self.old.held.space ≡ true }
         ensures heap { self.new.heap ≡ self.old.heap }
-        ensures placed { IfOk result (λ at. HasPlacedObject self.old self.new ty tail name at) }
+        ensures placed { IfOk result (λ at. HasPlacedObject self.old self.new ty tail (size_by (slice_get (told_in self.old).opening.catalog ty) tail) name at) }
         ensures refused { IfErr result (λ fault. (IsOutOfPages self.old self.new (size_by (slice_get (told_in self.old).opening.catalog ty) tail) fault × HasNoRoom self.new (size_by (slice_get (told_in self.old).opening.catalog ty) tail)) ⊎ IsShortOfMemory self.old self.new fault) }
     {
         if let Some(at) = self.place_here(ty, tail, name) {

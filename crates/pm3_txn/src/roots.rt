@@ -11,9 +11,7 @@ use crate::faults::AccessFault;
 use crate::heap::Heap;
 use crate::transaction::Txn;
 use pm3_disk::Disk;
-
-/// The page of the root slots.
-const ROOTS_PAGE: u32 = 2;
+use pm3_page::ROOTS_PAGE;
 
 impl<D: Disk> Heap<D> {
     /// The page of the root slots, which lies below the frontier.

@@ -12,10 +12,10 @@ use crate::homes::filled;
 use crate::mutator::Mutator;
 use crate::values::{Turn, Value};
 use pm3_disk::Disk;
-use pm3_journal::Opened;
+use pm3_journal::{Earlier, Opened};
 use pm3_table::{Homes, Marks4, Shared};
 use std::alloc::Global;
-use std::snapshot::Snapshot;
+use std::fmt;
 
 /// There was no memory to start a heap. The two devices and the reader come back.
 #[derive(Drop)]
@@ -23,6 +23,12 @@ pub struct StartFault<D: Disk> {
     pub pages: D,
     pub journal: D,
     pub reader: D::Reader,
+}
+
+impl<D: Disk> fmt::Display for StartFault<D> {
+    fn fmt<W: fmt::Write>(&self, f: &mut fmt::Formatter<W>) -> fmt::Result {
+        write!(f, "there is no memory to start a heap")
+    }
 }
 
 impl<D: Disk> Heap<D> {
@@ -47,7 +53,7 @@ impl<D: Disk> Heap<D> {
             return Err(taken_apart(opened, reader));
         };
         let _keeps = opened.journal.stopped();
-        let whole = Snapshot::of(&opened);
+        let whole = Earlier::of(&opened);
         let frontier = frontier_of(&opened);
         let Opened {
             pages: file,

@@ -9,10 +9,9 @@ ghost use Rattle.pm3_txn.specs.Slots.{faults_in, opening_in, pages_in, stands_fo
 
 use pm3_access::Space;
 use pm3_disk::Disk;
-use pm3_journal::{Journal, Opened};
+use pm3_journal::{Earlier, Journal, Opened};
 use pm3_page::Image;
 use pm3_table::Chronicle;
-use std::snapshot::Snapshot;
 
 /// What goes with the turn to commit.
 #[derive(Drop)]
@@ -25,7 +24,7 @@ pub struct Turn<D: Disk> {
     /// The page file, on which no call is made until the heap is closed.
     pub file: D,
     /// The store as it was opened, for clauses alone.
-    pub opened: Snapshot<Opened<D>>,
+    pub opened: Earlier<Opened<D>>,
 }
 
 /// The value of a unit: the image of a page, the volatile pages of a group, or what goes with the turn.
