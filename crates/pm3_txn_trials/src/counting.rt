@@ -71,3 +71,22 @@ pub fn add_up<D: Disk>(heap: &Heap<D>, mutator: Mutator<D>, times: u32) -> (Muta
     }
     (mutator, refused)
 }
+
+/// The word of the object under root 0.
+pub fn count<D: Disk>(heap: &Heap<D>, mutator: Mutator<D>) -> (Mutator<D>, Result<u64, AccessFault>)
+    requires of { Belongs D.Reader.content heap.now mutator }
+    requires bare { HoldsNothing mutator }
+    ensures belongs { Belongs D.Reader.content heap.now result.0 }
+    ensures bare { HoldsNothing result.0 }
+{
+    let mut txn = mutator.begin(heap, 9);
+    let word = read_count(&mut txn);
+    (txn.abort(), word)
+}
+
+pub(crate) fn read_count<D: Disk>(txn: &mut Txn<'_, D>) -> Result<u64, AccessFault>
+    ensures { txn.new.heap ≡ txn.old.heap }
+{
+    txn.root(0, 0)?;
+    txn.word(0, 0)
+}

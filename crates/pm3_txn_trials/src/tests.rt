@@ -3,6 +3,7 @@ ghost use Rattle.std.specs.Prelude.{◌≡◌};
 ghost use Rattle.pm3_txn.specs.Underway.{Belongs, HoldsNothing};
 
 use super::*;
+use crate::counting::read_count;
 use pm3_core::{BASE, PAGE_BYTES};
 use pm3_disk::{Disk, MemoryDisk};
 use pm3_table::{Busy, Unit};
@@ -23,25 +24,6 @@ fn devices(alloc: Global, page: u32, journal: u32) -> Result<(MemoryDisk, Memory
 
 /// The number of a call that is never made.
 const NEVER: u32 = 1000;
-
-/// The word of the object under root 0.
-fn count<D: Disk>(heap: &Heap<D>, mutator: Mutator<D>) -> (Mutator<D>, Result<u64, AccessFault>)
-    requires of { Belongs D.Reader.content heap.now mutator }
-    requires bare { HoldsNothing mutator }
-    ensures belongs { Belongs D.Reader.content heap.now result.0 }
-    ensures bare { HoldsNothing result.0 }
-{
-    let mut txn = mutator.begin(heap, 9);
-    let word = read_count(&mut txn);
-    (txn.abort(), word)
-}
-
-fn read_count<D: Disk>(txn: &mut Txn<'_, D>) -> Result<u64, AccessFault>
-    ensures { txn.new.heap ≡ txn.old.heap }
-{
-    txn.root(0, 0)?;
-    txn.word(0, 0)
-}
 
 #[test]
 fn a_commit_is_read_back(rt: HostRuntime) -> Result<(), Fail> {
