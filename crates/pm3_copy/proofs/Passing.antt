@@ -5,18 +5,31 @@ use Rattle.std.proofs.lemmas.Bool.{cases_eq, cases_lt}
 use Rattle.std.proofs.lemmas.List.{get_or_default}
 use Rattle.std.proofs.lemmas.List.Elements.{Contains-get_or}
 use Rattle.pm3_types.specs.PassMoves.{IsRising}
-use Rattle.pm3_copy.specs.Spreading.{TakesUp}
+use Rattle.pm3_copy.specs.Spreading.{ArePassed, TakesUp}
 use Rattle.pm3_copy.proofs.Listing.{rising_distinct}
-
--- of a list within all, the members before a place are among the first i of all, and the others behind them
-pub record ArePassed (all list : List ℕ) (i next : ℕ) : Type 0 where
-  pub before : (k : ℕ) → k < next → k < length list → (j : ℕ) × (j < i) × (get_or all j 0 ≡ get_or list k 0)
-  pub behind : (k : ℕ) → next ≤ k → k < length list → (j : ℕ) × (i ≤ j) × (j < length all) × (get_or all j 0 ≡ get_or list k 0)
 
 pub passed_none : (all list : List ℕ) → All (Contains all) list → ArePassed all list 0 0
 passed_none all list within = record {
+  low = omega arith;
   before = λ k low there. absurd (omega arith);
   behind = λ k from low. (let place = within k 0 low in (place.0, omega arith, place.1, get_or_default all place.0 0 (get_or list k 0) place.1 ∙ place.2));
+}
+
+-- no member is among those up to another place
+pub passed_skip : (all list : List ℕ) (i m next : ℕ) → i ≤ m → ((k : ℕ) → i ≤ k → k < m → Contains list (get_or all k 0) → ⊥) → ArePassed all list i next → ArePassed all list m next
+passed_skip all list i m next up never passed = record {
+  low = passed.low;
+  before = λ k less inside. (let place = passed.before k less inside in (place.0, omega (arith, place.1), place.2));
+  behind = λ k from inside. (
+      let place = passed.behind k from inside in (
+        place.0,
+        elim (cases_lt place.0 m) [
+          | inl low ↦ absurd (never place.0 place.1 low (subst (Contains list) (sym place.3) (Contains-get_or list k 0 inside)))
+          | inr high ↦ high
+        ],
+        place.2,
+        place.3,
+      ));
 }
 
 module _ (all list : List ℕ) (rising : IsRising all) (list_rises : IsRising list) (i next : ℕ) (low : i < length all) (passed : ArePassed all list i next) where
@@ -46,6 +59,7 @@ module _ (all list : List ℕ) (rising : IsRising all) (list_rises : IsRising li
   -- it is passed
   pub passed_more : next < length list → get_or list next 0 ≡ get_or all i 0 → ArePassed all list (i + 1) (next + 1)
   passed_more there is = record {
+    low = omega arith;
     before = λ k less inside. elim (cases_eq k next) [
       | inl same ↦ (i, omega arith, sym is ∙ ap (λ n. get_or list n 0) (sym same))
       | inr apart ↦ (let place = passed.before k (omega arith) inside in (place.0, omega (arith, place.1), place.2))
@@ -66,6 +80,7 @@ module _ (all list : List ℕ) (rising : IsRising all) (list_rises : IsRising li
   -- or it is no member
   pub passed_same : (Contains list (get_or all i 0) → ⊥) → ArePassed all list (i + 1) next
   passed_same never = record {
+    low = passed.low;
     before = λ k less inside. (let place = passed.before k less inside in (place.0, omega (arith, place.1), place.2));
     behind = λ k from inside. (
         let place = passed.behind k from inside in (
@@ -82,20 +97,20 @@ module _ (all list : List ℕ) (rising : IsRising all) (list_rises : IsRising li
 -- the step, by a test of the next of the list
 module _ (all list : List ℕ) (rising : IsRising all) (list_rises : IsRising list) (i next : ℕ) (low : i < length all) (passed : ArePassed all list i next) (b : Bool)
     (test : IsTrue b ↔ ((next < length list) × (get_or list next 0 ≡ get_or all i 0))) where
-  pub passed_step : (more : ℕ) → more ≡ cond b 1 0 → next ≤ length list → ArePassed all list (i + 1) (next + more) × (next + more ≤ length list)
-  passed_step more is within = by b refl
+  pub passed_step : (more : ℕ) → more ≡ cond b 1 0 → ArePassed all list (i + 1) (next + more)
+  passed_step more is = by b refl
     where
-      by : (v : Bool) → b ≡ v → ArePassed all list (i + 1) (next + more) × (next + more ≤ length list)
+      by : (v : Bool) → b ≡ v → ArePassed all list (i + 1) (next + more)
       by true e =
           let there = test.0 (let P : Bool → Type 0 = λ c. IsTrue c in subst P (sym e) (search rules)) in
           let one : more ≡ 1 = is ∙ ap (λ c. cond c 1 0) e in
-          (subst (λ n. ArePassed all list (i + 1) n) (ap (λ n. next + n) (sym one)) (passed_more all list rising list_rises i next low passed there.0 there.1), omega (arith, there.0))
+          subst (λ n. ArePassed all list (i + 1) n) (ap (λ n. next + n) (sym one)) (passed_more all list rising list_rises i next low passed there.0 there.1)
       by false e =
           let none : more ≡ 0 = is ∙ ap (λ c. cond c 1 0) e in
           let never : Contains list (get_or all i 0) → ⊥ = λ c. (let P : Bool → Type 0 = λ c. IsTrue c in
           let fact = subst P e (test.1 (next_member all list rising list_rises i next low passed c)) in absurd (search rules)) in
           let same : next ≡ next + more = omega arith in
-          (subst (λ n. ArePassed all list (i + 1) n) same (passed_same all list rising list_rises i next low passed never), omega arith)
+          subst (λ n. ArePassed all list (i + 1) n) same (passed_same all list rising list_rises i next low passed never)
 
   -- a member is one of the others exactly where the test holds
   pub takes_step : (P : Type 0) (old new : List ℕ) → TakesUp (P × (b ≡ false)) (get_or all i 0) old new → TakesUp (P × (Contains list (get_or all i 0) → ⊥)) (get_or all i 0) old new

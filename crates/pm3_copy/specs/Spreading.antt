@@ -6,6 +6,7 @@ use Rattle.std.specs.Ordering.{nat_cmp}
 use Rattle.pm3_types.specs.Fields.{Fields}
 use Rattle.pm3_types.specs.Layout.{is_address, page_in}
 use Rattle.pm3_types.specs.Objects.{RefersTo}
+use Rattle.pm3_types.specs.PassMoves.{IsListOf}
 use Rattle.pm3_types.specs.PassSets.{Before, Turns}
 use Rattle.pm3_page.specs.PageMap.{Images}
 use Rattle.pm3_page.specs.PageSheets.{sheets_of}
@@ -40,13 +41,33 @@ AreWhole base images turned found = (b : ℕ) → set.contains turned (page_in b
 abbrev pub AreTurned : List Fields → ℕ → Before → set.FinSet nat_cmp → Type 0
 AreTurned catalog base before turned = (p : ℕ) → (set.contains turned p ≡ true) ↔ Turns catalog base before p
 
--- an object was found that lies on no pinned page
-abbrev pub IsFree : ℕ → set.FinSet nat_cmp → Finds → ℕ → Type 0
-IsFree base pinned found a = Contains found.list a × (set.contains pinned (page_in base a) ≡ false)
-
--- and is not among others
+-- an object was found that lies on no pinned page and is not among others
 abbrev pub Picks : ℕ → set.FinSet nat_cmp → List ℕ → Finds → ℕ → Type 0
 Picks base pinned but found a = Contains found.list a × (set.contains pinned (page_in base a) ≡ false) × (Contains but a → ⊥)
+
+-- it is one of the first n
+pub record IsBefore (list : List ℕ) (n a : ℕ) : Type 0 where
+  pub place : ℕ
+  pub low : place < n
+  pub is : slice_index list place ≡ a
+
+-- just what is picked of the first n objects, in rising order
+unfoldable pub ArePicked : ℕ → set.FinSet nat_cmp → List ℕ → Finds → ℕ → List ℕ → Type 0
+ArePicked base pinned but found n list = IsListOf (λ a. Picks base pinned but found a × IsBefore found.objects n a) list
+
+-- of a list within all, the members before a place are among the first i of all, and the others behind them
+pub record ArePassed (all list : List ℕ) (i next : ℕ) : Type 0 where
+  pub low : next ≤ length list
+  pub before : (k : ℕ) → k < next → k < length list → (j : ℕ) × (j < i) × (slice_index all j ≡ slice_index list k)
+  pub behind : (k : ℕ) → next ≤ k → k < length list → (j : ℕ) × (i ≤ j) × (j < length all) × (slice_index all j ≡ slice_index list k)
+
+-- the members of a list lie on no pinned page
+abbrev pub AreFree : ℕ → set.FinSet nat_cmp → List ℕ → Type 0
+AreFree base pinned list = (a : ℕ) → Contains list a → set.contains pinned (page_in base a) ≡ false
+
+-- the members of a list from one place to another lie on the page of the first of them
+abbrev pub AreOnOne : ℕ → List ℕ → ℕ → ℕ → Type 0
+AreOnOne base list first end = (k : ℕ) → first ≤ k → k < end → page_in base (slice_index list k) ≡ page_in base (slice_index list first)
 
 -- an object of the images refers to it
 abbrev pub RefersFor : List Fields → ℕ → Images → ℕ → ℕ → Type 0

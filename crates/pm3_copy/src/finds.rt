@@ -1,15 +1,20 @@
 //! The objects of a space, and those of them that have been found.
-ghost use Rattle.std.specs.Prelude.{ℕ, ◌≡◌, ◌↔◌, ◌<◌, ◌≤◌, [], length, slice_index, IfOk, IsTrue};
+ghost use Rattle.std.specs.Prelude.{ℕ, ◌+◌, ◌≡◌, ◌↔◌, ◌<◌, ◌≤◌, [], length, slice_index, IfOk, IsTrue};
 ghost use Rattle.std.specs.List.{Contains};
+ghost use Rattle.pm3_types.specs.Layout.{page_in};
 ghost use Rattle.pm3_types.specs.PassMoves.{IsRising};
 ghost use Rattle.pm3_copy.specs.Finds.{Adds};
+ghost use Rattle.pm3_copy.specs.Spreading.{AreOnOne};
 ghost use Rattle.pm3_copy.specs.Blocks.{AreOnBlocks, AreBlocks, AreWaiting};
 
 use crate::blocks::Blocks;
-use pm3_page::{Addr, BASE};
+use pm3_page::{Addr, BASE, page_within};
 use pm3_types::Memory;
 use std::alloc::Global;
 use std::marker::Model;
+
+/// The longest step to another object of the same page, in places.
+const LONGEST_STEP: usize = 128;
 
 /// Objects in rising order, and those of them that have been found, each once, in the order of coming. For each word of their
 /// pages a flag says whether an object begins there that still waits to be found. To find one takes no memory.
@@ -72,6 +77,40 @@ impl Found {
         ensures { result ≡ slice_index self.now.objects i }
     {
         self.objects[i]
+    }
+
+    /// A place from this one on among all, up to which all objects lie on the page of the one here.
+    pub(crate) fn last_on_page(&self, first: usize) -> usize
+        requires there { first < length self.now.objects }
+        requires rising { IsRising self.now.objects }
+        ensures behind { first ≤ result }
+        ensures within { result < length self.now.objects }
+        ensures page { AreOnOne BASE self.now.objects first (result + 1) }
+    {
+        let mut last = first;
+        let mut step = LONGEST_STEP;
+        while step > 0 {
+            last = self.step_on_page(last, step);
+            step /= 2;
+        }
+        last
+    }
+
+    /// The place so many steps behind this one among all if the object there lies on the same page, and else this one.
+    fn step_on_page(&self, place: usize, step: usize) -> usize
+        requires { place < length self.now.objects }
+        ensures behind { place ≤ result }
+        ensures within { result < length self.now.objects }
+        ensures page { page_in BASE (slice_index self.now.objects result) ≡ page_in BASE (slice_index self.now.objects place) }
+    {
+        if step >= self.objects.len() - place {
+            return place;
+        }
+        let later = place + step;
+        if page_within(self.objects[later]) != page_within(self.objects[place]) {
+            return place;
+        }
+        later
     }
 
     /// Whether the object at a place among all has been found.

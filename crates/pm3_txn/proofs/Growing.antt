@@ -3,12 +3,14 @@ use Rattle.std.proofs.Common.{◌≡◌, ◌<◌, ◌≤◌, ◌+◌, ◌-◌, �
 use Rattle.std.proofs.lemmas.Bool.{cases_eq, false≢true, eq-eqb, ne_eqb, and_from, le-leb}
 use Rattle.std.specs.Cmp.{nat_cmp_total, unsigned_tied}
 use Rattle.std.specs.Option.{option_map}
-use Rattle.std.specs.FinMap.{get}
+use Rattle.std.specs.FinMap.{entries, get}
 use Rattle.std.specs.FinSet as set
 use Rattle.std.specs.FinSet.{contains-insert, contains-remove, same_set, nat_cmp-IsAntisymmetric}
 use Rattle.atomic_table.specs.Seated.{TableId}
 use Rattle.pm3_types.specs.Layout.{PageImage, blank_sheet, end_of, used_in}
 use Rattle.pm3_page.specs.Next.{IsNext}
+use Rattle.pm3_page.specs.PageSheets.{sheets_over}
+use Rattle.pm3_access.specs.Acts.{space_found}
 use Rattle.pm3_access.specs.FreeList.{Numbers}
 use Rattle.pm3_access.specs.Holding.{Holding, HeldSpaceState, FreeIs, by_space, grown, with_free}
 use Rattle.pm3_access.specs.Making.{current_image, has_room_for, has_space_for}
@@ -34,7 +36,7 @@ use Rattle.pm3_txn.specs.Takes.{with_view}
 use Rattle.pm3_txn.specs.Underway.{IsMutatorOf, IsUnderway}
 use Rattle.pm3_txn.specs.Works.{is_own_page}
 use Rattle.pm3_txn.proofs.Advancing.{moment}
-use Rattle.pm3_txn.proofs.Keeping.{Keeps, keeps_both, keeps_books, keeps_same, row_kept}
+use Rattle.pm3_txn.proofs.Keeping.{FoundSame, Keeps, keeps_both, keeps_books, keeps_same, row_kept}
 use Rattle.pm3_txn.proofs.OwnerDraws.{holdings_draw, holdings_reuse, drawn_names_are_unused}
 use Rattle.pm3_txn.proofs.OwnerFree.{holdings_free, holdings_room}
 use Rattle.pm3_txn.proofs.OwnerSteps.{draws_are_alike, settles_spread}
@@ -70,6 +72,30 @@ grown_pages image h q = by h.space
       | inr ne ↦ ap is_some (images_at.get_other s.images.left image.page q image ne) ∙ is
     ]
 
+-- and the same was found
+found_itself : (h : Holding) → FoundSame h h
+found_itself h = record { images = refl; space = refl }
+
+found_both : (h k g : Holding) → FoundSame h k → FoundSame k g → FoundSame h g
+found_both h k g first second = record { images = second.images ∙ first.images; space = second.space ∙ first.space }
+
+found_by : (h : Holding) (s : Option HeldSpaceState) → space_found s ≡ space_found h.space → FoundSame h (record { pages = h.pages; space = s })
+found_by h s same = record { images = ap (sheets_over (entries h.pages.found)) same; space = same }
+
+free_found : (free : HeldSpaceState → Numbers) (room : HeldSpaceState → ℕ) (h : Holding) → FoundSame h (by_space (λ s. with_free s (free s) (room s)) h)
+free_found free room h = found_by h (option_map (λ t. with_free t (free t) (room t)) h.space) (by h.space)
+  where
+    by : (s : Option HeldSpaceState) → space_found (option_map (λ t. with_free t (free t) (room t)) s) ≡ space_found s
+    by None = refl
+    by (Some s) = refl
+
+grown_found : (image : PageImage) (h : Holding) → FoundSame h (by_space (λ s. grown s image) h)
+grown_found image h = found_by h (option_map (λ t. grown t image) h.space) (by h.space)
+  where
+    by : (s : Option HeldSpaceState) → space_found (option_map (λ t. grown t image) s) ≡ space_found s
+    by None = refl
+    by (Some s) = refl
+
 -- A view has only drawn, and seen that counters are full.
 pub record HasOnlyDrawn (v w : View) : Type 0 where
   pub alike : IsAlike v w
@@ -80,9 +106,9 @@ pub record HasOnlyDrawn (v w : View) : Type 0 where
   pub faults : w.faults ≡ v.faults
 
 module _ {R : Type 0} (content : R → Option (List ℕ)) (heap : TableId × Told) (m : MutatorState R) (w : View) (h g : Holding) (tag : ℕ) (was : IsUnderway content (moment heap tag m h)) (only : HasOnlyDrawn m.pass.1 w)
-    (grew : HasGrown heap.1 m.pass.1 h w m.space g) (pages : (q : ℕ) → is_own_page h q ≡ true → is_own_page g q ≡ true) where
+    (grew : HasGrown heap.1 m.pass.1 h w m.space g) (pages : (q : ℕ) → is_own_page h q ≡ true → is_own_page g q ≡ true) (found : FoundSame h g) where
   keeps : Keeps heap.1 m.pass.1 h w g
-  keeps = keeps_both heap.1 m.pass.1 w w h h g (keeps_same heap.1 m.pass.1 w h only.alike.seen) (keeps_books heap.1 w h g pages (λ st opens. grew.2))
+  keeps = keeps_both heap.1 m.pass.1 w w h h g (keeps_same heap.1 m.pass.1 w h only.alike.seen) (keeps_books heap.1 w h g pages (λ st opens. grew.2) found)
 
   pub grown_underway : IsMutatorOf content heap (with_view m w) → IsUnderway content (moment heap tag (with_view m w) g)
   grown_underway kept = record {
@@ -142,13 +168,13 @@ module _ {R : Type 0} (content : R → Option (List ℕ)) (heap : TableId × Tol
   named n = (let on = holdings_draw heap.1 v (drew_name v n) m.space h (draws_are_alike v n).2 refl was.holding in (on.0, on.1, refl))
 
   pub named_underway : (n : ℕ) → IsMutatorOf content heap (with_view m (drew_name v n)) → IsUnderway content (moment heap tag (with_view m (drew_name v n)) h)
-  named_underway n kept = grown_underway content heap m (drew_name v n) h h tag was (only_named n) (named n) (λ q e. e) kept
+  named_underway n kept = grown_underway content heap m (drew_name v n) h h tag was (only_named n) (named n) (λ q e. e) (found_itself h) kept
 
   pub has_drawn_name : (n : ℕ) → IsBelow heap.1 → 1 ≤ heap.1.next_name → n < 2 ^ 62 → IsNewName heap.1 v n → HasDrawnName (moment heap tag m h) (moment heap tag (with_view m (drew_name v n)) h) n
   has_drawn_name n below first low new =
       let unused : HasNoName heap.1 h n = drawn_names_are_unused heap.1 v m.space h n below was.mutator.lawful new was.holding in
       record {
-        grown = has_grown content heap m (drew_name v n) h h tag was (only_named n) (named n) (λ q e. e) there refl;
+        grown = has_grown content heap m (drew_name v n) h h tag was (only_named n) (named n) (λ q e. e) (found_itself h) there refl;
         drew = (omega arith, refl);
         filled = refl;
         held = refl;
@@ -164,12 +190,12 @@ module _ {R : Type 0} (content : R → Option (List ℕ)) (heap : TableId × Tol
   full c k holding = (let on = holdings_draw heap.1 v (saw_full c v) m.space k (draws_are_alike v c).0 refl holding in (on.0, on.1, refl))
 
   pub names_full_underway : IsMutatorOf content heap (with_view m (saw_full 1 v)) → IsUnderway content (moment heap tag (with_view m (saw_full 1 v)) h)
-  names_full_underway kept = grown_underway content heap m (saw_full 1 v) h h tag was (only_full 1) (full 1 h was.holding) (λ q e. e) kept
+  names_full_underway kept = grown_underway content heap m (saw_full 1 v) h h tag was (only_full 1) (full 1 h was.holding) (λ q e. e) (found_itself h) kept
 
   pub names_full : IsNameRefusal (moment heap tag m h) (moment heap tag (with_view m (saw_full 1 v)) h) (Full Names (2 ^ 62))
   names_full = record {
     full = refl;
-    grown = has_grown content heap m (saw_full 1 v) h h tag was (only_full 1) (full 1 h was.holding) (λ q e. e) there refl;
+    grown = has_grown content heap m (saw_full 1 v) h h tag was (only_full 1) (full 1 h was.holding) (λ q e. e) (found_itself h) there refl;
     drew = (omega arith, omega arith);
     filled = refl;
   }
@@ -188,11 +214,14 @@ module _ {R : Type 0} (content : R → Option (List ℕ)) (heap : TableId × Tol
     pages_full_grown : HasGrown heap.1 v h (saw_full 0 v) m.space roomy
     pages_full_grown = grown_both heap.1 v v (saw_full 0 v) m.space h roomy roomy room_grown (full 0 roomy room_grown.1)
 
+    roomy_found : FoundSame h roomy
+    roomy_found = free_found (λ s. s.free) more h
+
     roomy_pages : (q : ℕ) → is_own_page h q ≡ true → is_own_page roomy q ≡ true
     roomy_pages q own = free_pages (λ s. s.free) more h q ∙ own
 
     pub pages_full_underway : IsMutatorOf content heap (with_view m (saw_full 0 v)) → IsUnderway content (moment heap tag (with_view m (saw_full 0 v)) roomy)
-    pages_full_underway kept = grown_underway content heap m (saw_full 0 v) h roomy tag was (only_full 0) pages_full_grown roomy_pages kept
+    pages_full_underway kept = grown_underway content heap m (saw_full 0 v) h roomy tag was (only_full 0) pages_full_grown roomy_pages roomy_found kept
 
     same_current : (s : Option HeldSpaceState) → current_image (option_map (λ t. with_free t t.free (more t)) s) ≡ current_image s
     same_current None = refl
@@ -205,7 +234,7 @@ module _ {R : Type 0} (content : R → Option (List ℕ)) (heap : TableId × Tol
     pub pages_full : IsPageShortage (moment heap tag m h) (moment heap tag (with_view m (saw_full 0 v)) roomy) (Full Pages heap.1.pages)
     pages_full = record {
       full = refl;
-      grown = has_grown content heap m (saw_full 0 v) h roomy tag was (only_full 0) pages_full_grown roomy_pages roomy_some refl;
+      grown = has_grown content heap m (saw_full 0 v) h roomy tag was (only_full 0) pages_full_grown roomy_pages roomy_found roomy_some refl;
       drew = (omega arith, omega arith);
       filled = refl;
       current = same_current h.space;
@@ -236,11 +265,14 @@ module _ {R : Type 0} (content : R → Option (List ℕ)) (heap : TableId × Tol
       paged = grown_both heap.1 v v w m.space h roomy freer room_grown
           (holdings_free heap.1 v w m.space roomy page room room_grown.1 new high low alike (settles_spread (drew_page v page) page (space_unit heap.1.pages m.space) v.log).1)
 
+      freer_found : FoundSame h freer
+      freer_found = found_both h roomy freer roomy_found (free_found (λ s. set.insert s.free page) room roomy)
+
       freer_pages : (q : ℕ) → is_own_page h q ≡ true → is_own_page freer q ≡ true
       freer_pages q own = free_pages (λ s. set.insert s.free page) room roomy q ∙ roomy_pages q own
 
       pub paged_underway : IsMutatorOf content heap (with_view m w) → IsUnderway content (moment heap tag (with_view m w) freer)
-      paged_underway kept = grown_underway content heap m w h freer tag was only_paged paged freer_pages kept
+      paged_underway kept = grown_underway content heap m w h freer tag was only_paged paged freer_pages freer_found kept
 
       has_page : (s : Option HeldSpaceState) → is_some s ≡ true → HasFree (option_map (λ t. with_free t (set.insert t.free page) (room t)) s)
       has_page None is = absurd (false≢true is)
@@ -248,7 +280,7 @@ module _ {R : Type 0} (content : R → Option (List ℕ)) (heap : TableId × Tol
 
       pub has_drawn_page : HasDrawnPage (moment heap tag m h) (moment heap tag (with_view m w) freer)
       has_drawn_page = record {
-        grown = has_grown content heap m w h freer tag was only_paged paged freer_pages (still_some (λ s. with_free s (set.insert s.free page) (room s)) roomy.space ∙ roomy_some) refl;
+        grown = has_grown content heap m w h freer tag was only_paged paged freer_pages freer_found (still_some (λ s. with_free s (set.insert s.free page) (room s)) roomy.space ∙ roomy_some) refl;
         drew = (refl, omega arith);
         free = has_page roomy.space roomy_some;
       }
@@ -264,11 +296,14 @@ module _ {R : Type 0} (content : R → Option (List ℕ)) (heap : TableId × Tol
     reused : HasGrown heap.1 v h v m.space opened
     reused = holdings_reuse heap.1 v m.space h image below was.mutator.lawful was.holding is blank
 
+    opened_found : FoundSame h opened
+    opened_found = found_both h (unfreed h image.page) opened (free_found (λ s. set.remove s.free image.page) (λ s. s.room + 1) h) (grown_found image (unfreed h image.page))
+
     opened_pages : (q : ℕ) → is_own_page h q ≡ true → is_own_page opened q ≡ true
     opened_pages q own = grown_pages image (unfreed h image.page) q (free_pages (λ s. set.remove s.free image.page) (λ s. s.room + 1) h q ∙ own)
 
     pub opened_underway : IsUnderway content (moment heap tag m opened)
-    opened_underway = grown_underway content heap m v h opened tag was itself reused opened_pages was.mutator
+    opened_underway = grown_underway content heap m v h opened tag was itself reused opened_pages opened_found was.mutator
 
     unheld : (s : Option HeldSpaceState) → MayHoldSpace heap.1 v m.space s → FreeIs s (λ free. set.contains free image.page ≡ true) → 3 ≤ image.page
     unheld None held free = absurd free
@@ -289,7 +324,7 @@ module _ {R : Type 0} (content : R → Option (List ℕ)) (heap : TableId × Tol
 
     pub has_opened : HasOpenedPage (moment heap tag m h) (moment heap tag m opened)
     has_opened = record {
-      grown = has_grown content heap m v h opened tag was itself reused opened_pages
+      grown = has_grown content heap m v h opened tag was itself reused opened_pages opened_found
           (still_some (λ s. grown s image) (unfreed h image.page).space ∙ still_some (λ s. with_free s (set.remove s.free image.page) (s.room + 1)) h.space ∙ there) refl;
       drew = (omega arith, omega arith);
       room = roomy_page h.space there (unheld h.space was.holding.space is);

@@ -7,7 +7,7 @@ use Rattle.pm3_types.specs.Fields.{Fields}
 use Rattle.pm3_types.specs.Layout.{page_in}
 use Rattle.pm3_access.specs.declared.places.Place.{Place}
 use Rattle.pm3_access.specs.Access.{is_object_held, value_written}
-use Rattle.pm3_access.specs.Acts.{map_held, space_left}
+use Rattle.pm3_access.specs.Acts.{map_held, found_images, space_found, space_left}
 use Rattle.pm3_access.specs.Holding.{Holding, HeldImages, HeldSpaceState}
 use Rattle.pm3_access.specs.Roots.{root_written, images_rooted}
 use Rattle.pm3_access.specs.Spots.{IsValueFor, has_names}
@@ -22,16 +22,22 @@ use Rattle.pm3_table.specs.Telling.{Lawful}
 use Rattle.pm3_txn.specs.Knowing.{state_seen}
 use Rattle.pm3_txn.specs.Owners.{IsHolding, KnowsHere, KnowsWordHere, name_here}
 use Rattle.pm3_txn.specs.Works.{left_book, is_own_page}
-use Rattle.pm3_txn.proofs.Changing.{IsChange, written_change}
-use Rattle.pm3_txn.proofs.Keeping.{Keeps, keeps_books}
+use Rattle.pm3_txn.proofs.Changing.{IsChange, changed_found, rooted_change, written_change}
+use Rattle.pm3_txn.proofs.Keeping.{FoundSame, Keeps, keeps_books}
 use Rattle.pm3_txn.proofs.OwnerAnswers.{known_word}
 use Rattle.pm3_txn.proofs.Seeing.{settled_now}
 use Rattle.pm3_txn.proofs.WorksChange.{write_own}
-use Rattle.pm3_txn.proofs.WorksOwn.{own_page_still}
+use Rattle.pm3_txn.proofs.WorksOwn.{own_page_still, space_found_still}
 
 -- a page of the space stays one where one image is another
 pub own_pages : (h new : Holding) (page : ℕ) → IsChange h new page → (q : ℕ) → is_own_page new q ≡ is_own_page h q
 own_pages h new page change q = ap (λ (k : Holding). is_own_page k q) (sym change.is) ∙ own_page_still h page change.image change.now change.there q
+
+pub change_found : (h new : Holding) (page : ℕ) → IsChange h new page → FoundSame h new
+change_found h new page change = record {
+  images = ap found_images (sym change.is) ∙ changed_found h page change.image change.now change.there;
+  space = ap (λ (k : Holding). space_found k.space) (sym change.is) ∙ space_found_still h page change.image change.now change.there;
+}
 
 module _ (told : Told) (v : View) (number : ℕ) (h new : Holding) (a x : ℕ) (map : Fields) (place : Place) (holding : IsHolding told v number h) (lawful : Lawful told v.seen) (known : KnowsHere told v h a)
     (object : is_object_held BASE h a ≡ true) (map_is : map_held told.opening.catalog BASE h a ≡ Some map) (value : IsValueFor place x) (word : has_names map place ≡ true → KnowsWordHere told v h x)
@@ -45,6 +51,7 @@ module _ (told : Told) (v : View) (number : ℕ) (h new : Holding) (a x : ℕ) (
 
   pub keeps_written : Keeps told v h v new
   keeps_written = keeps_books told v h new (λ q own. own_pages h new (page_in BASE a) (written_change told.opening.catalog h new a place x is) q ∙ own) books_written
+      (change_found h new (page_in BASE a) (written_change told.opening.catalog h new a place x is))
 
 -- a root slot is on a page that is held alone
 same_space : (h new : Holding) (o : Option HeldImages) → option_map (λ (p : HeldImages). record h { pages = p }) o ≡ Some new → new.space ≡ h.space
@@ -55,4 +62,4 @@ pub keeps_rooted : (told : Told) (v : View) (h new : Holding) (slot x : ℕ) →
 keeps_rooted told v h new slot x is =
     let same : new.space ≡ h.space = same_space h new (images_rooted h.pages slot x) is in
     keeps_books told v h new (λ q own. ap (λ (s : Option HeldSpaceState). is_own_page (record { pages = new.pages; space = s }) q) same ∙ own)
-    (λ st opens. ap (λ (s : Option HeldSpaceState). book_of BASE (space_left s)) same)
+    (λ st opens. ap (λ (s : Option HeldSpaceState). book_of BASE (space_left s)) same) (change_found h new 2 (rooted_change h new slot x is))

@@ -29,6 +29,7 @@ pub mod Cleared
 pub mod ByteSteps
 pub mod OwnBooks
 pub mod WorksFound
+pub mod FoundStays
 pub mod WorksGo
 pub mod WorksBegin
 pub mod WorksGrow
@@ -67,6 +68,7 @@ pub mod Restored
 pub mod SpaceTaken
 pub mod Growing
 pub mod Made
+pub mod Shortages
 pub mod PassPages
 pub mod PassBook
 pub mod PassAfter

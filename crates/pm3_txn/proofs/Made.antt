@@ -33,11 +33,12 @@ use Rattle.pm3_txn.specs.Touching.{Advances, IsSameButHeld, nothing_more}
 use Rattle.pm3_txn.specs.Underway.{IsUnderway}
 use Rattle.pm3_txn.specs.Works.{left_book, is_own_page}
 use Rattle.pm3_txn.proofs.Advancing.{moment, advances_both, goes_still}
-use Rattle.pm3_txn.proofs.Keeping.{Keeps, keeps_made, row_kept}
+use Rattle.pm3_txn.proofs.Changing.{IsChange}
+use Rattle.pm3_txn.proofs.Keeping.{FoundSame, Keeps, keeps_made, row_kept}
 use Rattle.pm3_txn.proofs.OwnBooks.{with_own}
 use Rattle.pm3_txn.proofs.OwnerMakes.{holdings_make, none_before, own_book, own_page}
 use Rattle.pm3_txn.proofs.Growing.{still_some}
-use Rattle.pm3_txn.proofs.KeepingWrites.{own_pages}
+use Rattle.pm3_txn.proofs.KeepingWrites.{change_found, own_pages}
 use Rattle.pm3_txn.proofs.WorksMake.{put_of}
 
 same_both : {R : Type 0} (old mid new : TxnState R) → IsSameButHeld old mid → IsSameButHeld mid new → IsSameButHeld old new
@@ -168,11 +169,21 @@ there_is [] type low = absurd (omega (arith, low))
 there_is (map ∷ maps) zero low = (map, refl)
 there_is (map ∷ maps) (suc k) low = there_is maps k (omega (arith, low))
 
--- each page of the space is one of it once an object was made
+-- an image is another once an object was made
+made_change : (catalog : List Fields) (h new : Holding) (type tail name a : ℕ) → AreInPlace h → IsMade BASE catalog h type tail name (Some a) new → (page : ℕ) × IsChange h new page
+made_change catalog h new type tail name a places made =
+    let put = put_of catalog h.pages h.space new type tail name a places made in
+    (put.page, record { image = put.image; now = placed_on put.image (size_by (slice_get catalog type) tail) (head_of type tail) name; there = put.there; is = put.is })
+
+-- so each page of the space is one of it
 more_pages : (catalog : List Fields) (h new : Holding) (type tail name a : ℕ) → AreInPlace h → IsMade BASE catalog h type tail name (Some a) new → (q : ℕ) → is_own_page h q ≡ true → is_own_page new q ≡ true
 more_pages catalog h new type tail name a places made q own =
-    let put = put_of catalog h.pages h.space new type tail name a places made in
-    own_pages h new put.page (record { image = put.image; now = placed_on put.image (size_by (slice_get catalog type) tail) (head_of type tail) name; there = put.there; is = put.is }) q ∙ own
+    let change = made_change catalog h new type tail name a places made in own_pages h new change.0 change.1 q ∙ own
+
+-- and the same was found
+more_found : (catalog : List Fields) (h new : Holding) (type tail name a : ℕ) → AreInPlace h → IsMade BASE catalog h type tail name (Some a) new → FoundSame h new
+more_found catalog h new type tail name a places made =
+    let change = made_change catalog h new type tail name a places made in change_found h new change.0 change.1
 
 -- in the space, under a usable name
 module _ {R : Type 0} (content : R → Option (List ℕ)) (heap : TableId × Told) (m : MutatorState R) (h new : Holding) (tag type tail name a : ℕ) (was : IsUnderway content (moment heap tag m h))
@@ -197,6 +208,7 @@ module _ {R : Type 0} (content : R → Option (List ℕ)) (heap : TableId × Tol
 
   keeps : Keeps heap.1 m.pass.1 h m.pass.1 new
   keeps = keeps_made heap.1 m.pass.1 h new a name (more_pages heap.1.opening.catalog h new type tail name a was.holding.places made) books
+      (more_found heap.1.opening.catalog h new type tail name a was.holding.places made)
 
   pub made_underway : IsUnderway content (moment heap tag m new)
   made_underway = record {

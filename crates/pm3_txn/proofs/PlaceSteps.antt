@@ -113,7 +113,7 @@ module _ {R : Type 0} where
           holds = t.holds;
           held = t.held;
           others = t.others;
-          goes_on = record { works = t.goes_on.works; keeps = record { usable = t.goes_on.keeps.usable; objects = t.goes_on.keeps.objects } };
+          goes_on = record { works = t.goes_on.works; keeps = record { usable = t.goes_on.keeps.usable; objects = t.goes_on.keeps.objects; found = t.goes_on.keeps.found } };
         };
         object = object.object;
       }

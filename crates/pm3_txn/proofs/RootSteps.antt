@@ -81,7 +81,7 @@ module _ {R : Type 0} where
     holds = t.holds;
     held = t.held;
     others = t.others;
-    goes_on = record { works = t.goes_on.works; keeps = record { usable = t.goes_on.keeps.usable; objects = t.goes_on.keeps.objects } };
+    goes_on = record { works = t.goes_on.works; keeps = record { usable = t.goes_on.keeps.usable; objects = t.goes_on.keeps.objects; found = t.goes_on.keeps.found } };
   })
 
   pub root_stored_from : (old mid next new : TxnState R) (slot k x : ℕ) → HasTouched old mid 2 nothing_more → next ≡ with_read mid k → x ≡ word_at mid k → HasRootStored next new slot x

@@ -43,7 +43,7 @@ module _ {R : Type 0} (t new : TxnState R) (i : ℕ) where
   same_from s = record { heap = s.heap; tag = s.tag; table = s.table; space = s.space; refs = s.refs; wrote = s.wrote; words = s.words; stands = s.stands; marks = s.marks; row = s.row; mine = s.mine; faults = s.faults }
 
   from : Advances (with_read t i) new nothing_more → Advances t new nothing_more
-  from x = record { works = x.works; keeps = record { usable = x.keeps.usable; objects = x.keeps.objects } }
+  from x = record { works = x.works; keeps = record { usable = x.keeps.usable; objects = x.keeps.objects; found = x.keeps.found } }
 
   -- what touched a page behind that read touched it from before it
   pub touched_from : (page : ℕ) → HasTouched (with_read t i) new page nothing_more → HasTouched t new page nothing_more

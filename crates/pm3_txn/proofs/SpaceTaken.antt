@@ -7,11 +7,15 @@ use Rattle.std.specs.FinMap.{contains_key, get}
 use Rattle.std.specs.FinSet as set
 use Rattle.atomic_table.specs.Seated.{TableId}
 use Rattle.pm3_disk.specs.declared.outside.Disk.{Ghosts}
+use Rattle.pm3_core.specs.declared.naming.TheConstants.{BASE}
 use Rattle.pm3_types.specs.Layout.{PageImage}
+use Rattle.pm3_graph.specs.declared.operations.Op.{Op}
 use Rattle.pm3_graph.specs.Frame.{FrameOfRuns}
 use Rattle.pm3_page.specs.PageMap.{IsAtHome}
 use Rattle.pm3_access.specs.Holding.{Holding, HeldSpaceState, SpaceState, image_in, space_now, with_held_space}
 use Rattle.pm3_history.specs.Entry.{Done}
+use Rattle.pm3_history.specs.Opens.{Opens}
+use Rattle.pm3_history.specs.State.{State}
 use Rattle.pm3_table.specs.declared.view.Hold.TheVariants.{Took, Gave}
 use Rattle.pm3_table.specs.declared.view.Told.{Told}
 use Rattle.pm3_table.specs.declared.view.View.{View}
@@ -22,6 +26,7 @@ use Rattle.pm3_table.specs.Words.{space_unit, turn_unit}
 use Rattle.pm3_txn.specs.declared.values.Value.TheVariants.{Space}
 use Rattle.pm3_txn.specs.Heaps.{IsBelow}
 use Rattle.pm3_txn.specs.Making.{HasTakenSpace, IsSpaceRefused, IsSpaceGivenBack}
+use Rattle.pm3_txn.specs.Knowing.{state_seen}
 use Rattle.pm3_txn.specs.OwnerLaws.{GoesFurther}
 use Rattle.pm3_txn.specs.Owners.{WorksOn, IsHolding, IsOwnUnit, RemembersHere}
 use Rattle.pm3_txn.specs.Slots.{pages_of}
@@ -30,6 +35,7 @@ use Rattle.pm3_txn.specs.Takes.{HasTaken, with_view}
 use Rattle.pm3_txn.specs.Touching.{IsSameButHeld, nothing_more}
 use Rattle.pm3_txn.specs.Underway.{IsMutatorOf, IsUnderway}
 use Rattle.pm3_txn.specs.Values.{IsSpaceOf}
+use Rattle.pm3_txn.specs.Works.{Works}
 use Rattle.pm3_txn.proofs.Advancing.{moment, goes_still}
 use Rattle.pm3_txn.proofs.FurtherOn.{took_same, took_calm, took_further, took_unit, took_alone, took_pages, back_further, advances_further, keeps_further, further_underway}
 use Rattle.pm3_txn.proofs.GivenUnits.{gave_only}
@@ -108,9 +114,13 @@ module _ {D R : Type 0} (g : Ghosts D R) (content : R → Option (List ℕ)) (he
       goes = holdings_take_spaces frame heap.1 m.pass.1 n.pass.1 m.space h has.taken.between space below far none number is_space home holds_it spread
           (took_alone g heap.1 m n u (Some (Space space)) space_free has) was.holding
 
+      before : (st : State) → Opens BASE heap.1.pages heap.1.opening st → (ops : List (Op × ℕ)) × Works heap.1.opening.catalog heap.1.pages (state_seen heap.1 n.pass.1 st) h ops
+      before st opens = (let was_then = was.holding.works st opens in
+          (was_then.0, (advances_further content heap m n h tag has.taken.between below far was).works st opens was_then.0 was_then.1))
+
       keeps : Keeps heap.1 m.pass.1 h n.pass.1 (with_held_space h space)
       keeps = keeps_both heap.1 m.pass.1 n.pass.1 n.pass.1 h h (with_held_space h space) (keeps_further content heap m n h tag has.taken.between below far was)
-          (keeps_spaced heap.1 n.pass.1 m.space h space none goes.1)
+          (keeps_spaced heap.1 n.pass.1 m.space h space none kept.lawful before goes.1)
 
       same : IsSameButHeld (moment heap tag m h) (moment heap tag n (with_held_space h space))
       same = took_same g heap.1 m n u (Some (Space space)) space_free has not_turn heap tag h (with_held_space h space) n refl refl refl refl refl

@@ -13,6 +13,7 @@ use Rattle.pm3_access.proofs.AdmitSteps.{left_here, left_else}
 use Rattle.pm3_history.specs.Entry.{Done}
 use Rattle.pm3_history.proofs.Laying.{there_none}
 use Rattle.pm3_core.specs.declared.naming.TheConstants.{BASE}
+use Rattle.pm3_types.proofs.Parts.{part_of_part}
 use Rattle.pm3_disk.specs.Content.{IfTold}
 use Rattle.pm3_disk.specs.Faults.{Rose}
 use Rattle.pm3_pagefile.specs.Loading.{IsLoaded, read_of}
@@ -32,10 +33,14 @@ use Rattle.pm3_table.specs.Words.{turn_unit}
 use Rattle.pm3_txn.specs.declared.values.Value.{Value}
 use Rattle.pm3_txn.specs.Aborting.{HasOnlyGiven}
 use Rattle.pm3_txn.specs.Heaps.{IsBelow}
-use Rattle.pm3_txn.specs.Knowing.{KnowsHome}
+use Rattle.pm3_txn.specs.Knowing.{KnowsHome, state_seen}
+use Rattle.pm3_txn.specs.Works.{Works}
+use Rattle.pm3_graph.specs.declared.operations.Op.{Op}
+use Rattle.pm3_history.specs.Opens.{Opens}
+use Rattle.pm3_history.specs.State.{State}
 use Rattle.pm3_txn.specs.Loads.{HasOnlyRead, IsPersistent}
 use Rattle.pm3_txn.specs.OwnerLaws.{GoesFurther}
-use Rattle.pm3_txn.specs.Owners.{WorksOn, AdvancesOn, IsHolding, IsOwnUnit, RemembersHere}
+use Rattle.pm3_txn.specs.Owners.{WorksOn, AdvancesOn, IsHolding, IsOwnUnit, RemembersHere, found_here}
 use Rattle.pm3_txn.specs.Slots.{stands_for, pages_in, faults_in}
 use Rattle.pm3_txn.specs.States.{MutatorState, TxnState, told_in}
 use Rattle.pm3_txn.specs.Takes.{HasTaken, with_view}
@@ -45,7 +50,7 @@ use Rattle.pm3_txn.specs.Values.{IsPageOf}
 use Rattle.pm3_txn.proofs.Seeing.{persistent_later}
 use Rattle.pm3_txn.proofs.Advancing.{moment, goes_still, still_underway}
 use Rattle.pm3_txn.proofs.FurtherOn.{took_same, took_calm, took_further, took_unit, took_alone, back_further, advances_further, keeps_further, further_underway}
-use Rattle.pm3_txn.proofs.Keeping.{Keeps, row_kept}
+use Rattle.pm3_txn.proofs.Keeping.{Keeps, admitted_pages, found_further, row_kept}
 use Rattle.pm3_txn.proofs.GivenUnits.{gave_only}
 use Rattle.pm3_txn.proofs.OwnerTakes.{holdings_take_pages}
 
@@ -186,9 +191,21 @@ module _ {D R : Type 0} (g : Ghosts D R) (content : R → Option (List ℕ)) (fa
           (ap (λ (v : View). holds_of v.holds page) read_view ∙ took_unit g heap.1 m n page slot not_held has)
           (λ u held. took_alone g heap.1 m n page slot not_held has u (sym (ap (λ (v : View). holds_of v.holds u) read_view) ∙ held)) was.holding
 
+      before : (st : State) → Opens BASE heap.1.pages heap.1.opening st → (ops : List (Op × ℕ)) × Works heap.1.opening.catalog heap.1.pages (state_seen heap.1 o.pass.1 st) h ops
+      before st opens = (let was_then = was.holding.works st opens in
+          (was_then.0, (advances_further content heap m o h tag taken.between below far was).works st opens was_then.0 was_then.1))
+
       keeps : Keeps heap.1 m.pass.1 h o.pass.1 (admitted h image)
       keeps = (let on = keeps_further content heap m o h tag taken.between below far was in
-          record { objects = record { usable = on.objects.usable; objects = on.objects.objects }; word = on.word })
+          record {
+            objects = record {
+              usable = on.objects.usable;
+              objects = on.objects.objects;
+              found = λ st opens. part_of_part (found_here heap.1 m.pass.1 h st) (found_here heap.1 o.pass.1 h st) (found_here heap.1 o.pass.1 (admitted h image) st) (on.objects.found st opens)
+                  (found_further heap.1 o.pass.1 h (admitted h image) kept_now.lawful before goes.1.works (admitted_pages h image) st opens);
+            };
+            word = on.word;
+          })
 
       pub held_underway : IsUnderway content (moment heap tag o (admitted h image))
       held_underway = record {

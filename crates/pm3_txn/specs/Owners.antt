@@ -7,13 +7,14 @@ use Rattle.pm3_core.specs.declared.naming.TheConstants.{BASE}
 use Rattle.pm3_types.specs.Layout.{PageImage, page_in}
 use Rattle.pm3_types.specs.PageForm.{HasForm, is_memory_reference}
 use Rattle.pm3_types.specs.Fields.{Fields}
+use Rattle.pm3_types.specs.Graph.{Part, PartOf}
 use Rattle.pm3_types.specs.Shown.{name_by}
 use Rattle.pm3_graph.specs.declared.operations.Op.{Op}
 use Rattle.pm3_graph.specs.declared.operations.Op.TheVariants as operation
 use Rattle.pm3_page.specs.PageSheets.{sheets_of}
 use Rattle.pm3_access.specs.declared.places.Place.{Place}
 use Rattle.pm3_access.specs.Access.{HaveForm}
-use Rattle.pm3_access.specs.Acts.{AreInPlace, space_left, space_found, read_op, write_op, answer_of}
+use Rattle.pm3_access.specs.Acts.{AreInPlace, found_part, space_left, space_found, read_op, write_op, answer_of}
 use Rattle.pm3_access.specs.Holding.{Holding, HeldSpaceState}
 use Rattle.pm3_history.specs.Named.{book_of}
 use Rattle.pm3_history.specs.Opens.{Opens}
@@ -29,7 +30,7 @@ use Rattle.pm3_txn.specs.Knowing.{KnowsWord, is_in_use, state_seen}
 use Rattle.pm3_txn.specs.Loads.{IsPersistent}
 use Rattle.pm3_txn.specs.Values as values
 use Rattle.pm3_txn.specs.Values.{IsPageOf}
-use Rattle.pm3_txn.specs.Works.{Works, left_book, is_own_page}
+use Rattle.pm3_txn.specs.Works.{Works, found_book, left_book, is_own_page}
 
 -- From whatever the files opened to, and whatever the transaction had done before a call, it has done this much after it.
 abbrev pub WorksOn : Told → View → Holding → View → Holding → (State → List (Op × ℕ) → List (Op × ℕ)) → Type 0
@@ -104,11 +105,16 @@ RemembersHere told v h refs wrote =
 abbrev pub name_here : Told → View → Holding → State → ℕ → ℕ
 name_here told v h st a = unwrap_or (get (left_book (state_seen told v st) h) a) 0
 
--- From one moment to another each object of the book stays one of it, under its name.
+-- what the transaction found shows, under the names that its objects had
+abbrev pub found_here : Told → View → Holding → State → Part
+found_here told v h st = found_part told.opening.catalog BASE (found_book (state_seen told v st) h) h
+
+-- From one moment to another each object of the book stays one of it, under its name, and what was found stays found.
 pub record KeepsObjects (told : Told) (v : View) (h : Holding) (w : View) (g : Holding) : Type 0 where
   pub usable : (a : ℕ) → own_use told v h a ≡ true → own_use told w g a ≡ true
   pub objects : (st : State) → Opens BASE told.pages told.opening st → (a n : ℕ)
       → get (left_book (state_seen told v st) h) a ≡ Some n → get (left_book (state_seen told w st) g) a ≡ Some n
+  pub found : (st : State) → Opens BASE told.pages told.opening st → PartOf (found_here told v h st) (found_here told w g st)
 
 -- The transaction has done this much more, and each object is where it was.
 pub record AdvancesOn (told : Told) (v : View) (h : Holding) (w : View) (g : Holding) (more : State → List (Op × ℕ) → List (Op × ℕ)) : Type 0 where

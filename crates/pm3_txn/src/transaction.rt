@@ -1,7 +1,7 @@
 //! Transactions.
 ghost use Rattle.std.specs.Prelude.{◌≡◌, false, replicate};
 ghost use Rattle.pm3_access.specs.Holding.{nothing_held};
-ghost use Rattle.pm3_txn.specs.Underway.{Belongs, HoldsNothing};
+ghost use Rattle.pm3_txn.specs.Underway.{Belongs, HoldsNothing, IsUnderway};
 
 use crate::heap::Heap;
 use crate::mutator::Mutator;
@@ -52,5 +52,14 @@ impl<D: Disk> Mutator<D> {
             held,
             tag,
         }
+    }
+}
+
+impl<D: Disk> Txn<'_, D> {
+    /// Does nothing. It tells a proof what holds of a transaction between two of its calls.
+    pub fn is_underway(&self)
+        ensures { IsUnderway D.Reader.content self.now }
+    {
+        let _ = &self.tag;
     }
 }

@@ -4,7 +4,7 @@ use Rattle.pm3_core.specs.declared.naming.TheConstants.{BASE}
 use Rattle.pm3_types.specs.PassMoves.{IsRising, IsListOf}
 use Rattle.pm3_types.specs.PassSets.{Promoted, Kept}
 use Rattle.pm3_copy.specs.Blocks.{AreBothNumbered, AreOnSome}
-use Rattle.pm3_copy.specs.Spreading.{Picks, before_of}
+use Rattle.pm3_copy.specs.Spreading.{AreFree, Picks, before_of}
 use Rattle.pm3_copy.proofs.PlanParts.{few, on_pages, movers_on, promoted_movers, kept_movers, promoted_object, kept_object, promoted_objects, kept_objects}
 use Rattle.pm3_copy.proofs.Stayers.{kept_apart}
 use Rattle.pm3_copy.proofs.planning.find_moving.Goals as goal
@@ -25,6 +25,12 @@ movers-requires-2-clause-objects c =
     let same = c.keep.ensures.objects ∙ c.in_ok-turned.ensures.objects in
     on_pages c.args.catalog.now BASE c.args.volatile.now.images c.requires.volatile c.keep.new.found.objects
     (λ a is. c.in_ok-found.ensures.objects.only a (subst (λ (xs : List ℕ). Contains xs a) same is))
+
+pub movers-requires-2-clause-free : goal.movers-requires-2-clause-free
+movers-requires-2-clause-free c =
+    subst (AreFree BASE c.args.pinned.now) (sym c.deref.ensures.value) (λ a is.
+    ((promoted_movers c.args.catalog.now BASE c.args.volatile.now.images c.args.written.now.images c.args.pinned.now c.requires.volatile c.promote.new.found c.in_ok-promoted.promoted.items
+    c.in_ok-turned.ensures.promoted c.in_ok-promoted.ensures.picked).only a is).1)
 
 pub returns-clause-promoted : goal.returns-clause-promoted
 returns-clause-promoted c =

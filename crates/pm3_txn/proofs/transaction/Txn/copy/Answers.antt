@@ -1,6 +1,6 @@
 use Rattle.std.proofs.Common.{inl, true, false, slice_index_or, refl}
 use Rattle.pm3_table.specs.Deeds.{word_of}
-use Rattle.pm3_txn.proofs.Advancing.{put_underway, put_placed}
+use Rattle.pm3_txn.proofs.Advancing.{put_marked, put_underway, put_placed}
 use Rattle.pm3_txn.proofs.Keeping.{place_here}
 use Rattle.pm3_txn.proofs.transaction.Txn.copy.Goals as goal
 
@@ -16,3 +16,6 @@ invariant_of-self-2 g c = put_underway g.D.Reader.Reader.content c.self.inside.h
 pub returns-clause-placed : goal.returns-clause-placed
 returns-clause-placed g c = rw (← c.self.view_is) (put_placed g.D.Reader.Reader.content c.self.inside.heap.now c.self.inside.mutator c.copy_word.new.self c.self.inside.held c.self.inside.tag c.args.j (word_of c.self.inside.mutator.pass.1.log c.args.i) (slice_index_or c.self.inside.mutator.refs c.args.i false)
     c.in_default.ensures.put c.in_default.ensures.pinned c.in_default.ensures.calm)
+
+pub returns-in-Err-clause-marked : goal.returns-in-Err-clause-marked
+returns-in-Err-clause-marked g c = rw (← c.self.view_is) (put_marked g.D.Reader.Reader.content c.self.inside.heap.now c.self.inside.mutator c.copy_word.new.self c.self.inside.held c.self.inside.tag c.args.j (word_of c.self.inside.mutator.pass.1.log c.args.i) c.in-Err.busy c.in-Err.ensures.cleared c.in-Err.ensures.marked)

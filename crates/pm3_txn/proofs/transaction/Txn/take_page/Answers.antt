@@ -2,7 +2,7 @@ use Rattle.std.proofs.Common.{◌≡◌, ◌∙◌, Err, sym, ap, subst}
 use Rattle.pm3_disk.specs.Faults.{Rose}
 use Rattle.pm3_txn.specs.States.{MutatorState}
 use Rattle.pm3_txn.proofs.Advancing.{moment}
-use Rattle.pm3_txn.proofs.Touched.{away_underway, taken_page, held_underway, held_touched, back_underway, given_back, load_refusal}
+use Rattle.pm3_txn.proofs.Touched.{away_underway, taken_page, held_underway, held_touched, back_underway, given_back, load_refusal, turned_away}
 use Rattle.pm3_txn.proofs.transaction.Txn.take_page.Goals as goal
 
 pub invariant_of-self : goal.invariant_of-self
@@ -48,3 +48,10 @@ pub returns-clause-refused : goal.returns-clause-refused
 returns-clause-refused g c = rw (← c.self.view_is) (rw c.in-Err-admit.ensures.same (given_back g.D.Disk g.D.Reader.Reader.content g.D.Reader.Reader.faults c.self.inside.heap.now c.self.inside.mutator c.self.inside.held c.self.inside.tag c.args.page
     c.self.invariant c.page_count.ensures.below (rw (← c.self.view_is) at c.requires.absent) (rw (← c.self.view_is) at c.requires.page) c.take.new.self c.image_of.new.self c.in-Ok.slot c.in-Ok.ensures.taken c.take.ensures.kept c.image_of.ensures.rest
     c.give-2.new.self c.give-2.ensures.given c.give-2.ensures.kept))
+
+pub returns-in-Err-clause-refused : goal.returns-in-Err-clause-refused
+returns-in-Err-clause-refused g c = rw (← c.self.view_is) (
+  c.in-Err.ensures.busy.0,
+  turned_away g.D.Disk g.D.Reader.Reader.content g.D.Reader.Reader.faults c.self.inside.heap.now c.self.inside.mutator c.self.inside.held c.self.inside.tag c.args.page
+      c.self.invariant c.page_count.ensures.below (rw (← c.self.view_is) at c.requires.absent) (rw (← c.self.view_is) at c.requires.page) c.take.new.self c.in-Err.busy.word c.in-Err.ensures.busy.2 c.in-Err.ensures.busy.1,
+)
