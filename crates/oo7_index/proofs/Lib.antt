@@ -1,1 +1,12 @@
-mod LeafPlaces
+mod Blaming
+mod Looking
+mod Following
+mod Stepping
+mod Valuing
+mod Descending
+mod Arriving
+mod Seeking
+mod Creating
+mod Reaching
+mod Landing
+mod Lawful

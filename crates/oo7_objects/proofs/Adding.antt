@@ -33,10 +33,10 @@ use Rattle.pm3_txn.specs.Touching.{Advances, nothing_more}
 use Rattle.pm3_txn.proofs.Advancing.{advances_both}
 use Rattle.oo7_schema.specs.Schema.{schema}
 use Rattle.oo7_objects.specs.Refusing.{IsOfRun, IsRefusal}
-use Rattle.oo7_objects.specs.Wholes.{HasClasses, HasNew, Kept, KeepsRow, Made, blank_by, name_at, new_object}
+use Rattle.oo7_objects.specs.Wholes.{HasClasses, HasNew, IsReference, Kept, KeepsRow, Made, blank_by, name_at, new_object}
 use Rattle.oo7_objects.proofs.Knowing.{made_so}
 use Rattle.oo7_objects.proofs.Moves.{DoesMore, has_done, step_by}
-use Rattle.oo7_objects.proofs.Rows.{IsStillRow, book_at, placed_name, placed_row, row_still, row_then}
+use Rattle.oo7_objects.proofs.Rows.{IsStillRow, book_at, placed_name, placed_row, placed_tag, row_still, row_then}
 use Rattle.oo7_objects.proofs.Runs.{is_made, none_of, part_in}
 use Rattle.oo7_objects.proofs.Stays.{HasStayed, stayed_by, stayed_kept, stayed_row, still_of}
 use Rattle.oo7_objects.proofs.Steps.{get_now}
@@ -86,6 +86,7 @@ no_address = refl
 module _ {R : Type 0} (content : R → Option (List ℕ)) (old : TxnState R) (underway : IsUnderway content old) (frame : FrameOfRuns) (classes : HasClasses old) where
   pub record Makes (new : TxnState R) (ty tail j : ℕ) : Type 0 where
     pub made : Made old new (λ st v w. HasNew w (name_at new st j) (new_object ty tail) v)
+    pub tag : IsReference new j
     pub row : KeepsRow old new j (j + 1)
 
   module _ (new : TxnState R) (same : new.heap ≡ old.heap) (ty tail j : ℕ) (low : j < 512) (made : HasMade old new ty tail j) where
@@ -149,6 +150,7 @@ module _ {R : Type 0} (content : R → Option (List ℕ)) (old : TxnState R) (un
     object_made = record {
       made = made_so (step_by frame old new same (has_done content old underway) made.goes_on.keeps (λ st. operation.New (name_at new st j) ty tail) (λ st. 0) more)
           (λ st v w step. object_added (told_in old).opening.catalog v w (name_at new st j) ty tail classes (made_facts (told_in old).opening.catalog v w (name_at new st j) ty tail 0 step));
+      tag = placed_tag made.made new j made.address within made.placed;
       row = row_then old made.made new j (j + 1) made_heap (row_still content old made.made made_heap underway to_made.keeps still j (j + 1)) (placed_row made.made new j made.address true made.placed);
     }
 

@@ -39,7 +39,7 @@ use Rattle.oo7_objects.specs.Refusing.{IsOfRun, IsRefusal}
 use Rattle.oo7_objects.specs.Wholes.{HasClasses, HasPlace, IsReference, Kept, KeepsRow, Knows, name_at}
 use Rattle.oo7_objects.proofs.Moves.{kept_by}
 use Rattle.oo7_objects.proofs.Here.{IsShown, both_ways, graph_at, left_at, map_refers, shown_here, some_name, whole_here}
-use Rattle.oo7_objects.proofs.Rows.{book_at, refused_row, row_still, row_then}
+use Rattle.oo7_objects.proofs.Rows.{book_at, either_nil, refused_row, row_still, row_then}
 use Rattle.oo7_objects.proofs.Stays.{HasStayed, number_stayed, place_stayed, stayed_kept, stayed_row, still_of}
 use Rattle.oo7_objects.proofs.Runs.{not_made}
 use Rattle.oo7_objects.proofs.Writing.{touched_at}
@@ -70,10 +70,6 @@ item_spot k = record {
   agrees = λ map r is. (and_parts (has_refs map.tail) (nat_lt k (length r.tail)) is).0;
   reads = λ catalog map kind n g. refl;
 }
-
-either_nil : (b : Bool) → cond {A = ℕ} b 0 0 ≡ 0
-either_nil true = refl
-either_nil false = refl
 
 read_there : (catalog : List Fields) (g : Part) (n : ℕ) (p : places_of.Place) (r : Record) → get g.records n ≡ Some r → is_place catalog r p ≡ true
     → read_of catalog g n p (get g.records n) ≡ Ok (value_at r p, g)

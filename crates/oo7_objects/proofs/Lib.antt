@@ -15,3 +15,4 @@ mod Typing
 mod Rooting
 mod Adding
 mod Turning
+mod Spotting

@@ -26,10 +26,10 @@ use Rattle.pm3_txn.specs.Underway.{IsUnderway}
 use Rattle.pm3_txn.specs.Works.{Works}
 use Rattle.pm3_txn.proofs.Advancing.{moment}
 use Rattle.oo7_schema.specs.Lookup.{value_in}
-use Rattle.oo7_objects.specs.Wholes.{HasClasses, Kept, KeepsRow, Knows, Made, look_of, name_at}
+use Rattle.oo7_objects.specs.Wholes.{HasClasses, IsReference, Kept, KeepsRow, Knows, Made, look_of, name_at}
 use Rattle.oo7_objects.proofs.Knowing.{kept_then, known_later, known_so, made_still, made_tells}
 use Rattle.oo7_objects.proofs.Moves.{DoesMore, has_done, kept_by, over_heap, step_by}
-use Rattle.oo7_objects.proofs.Rows.{book_at, object_named_at, placed_name, placed_row, row_still, row_then}
+use Rattle.oo7_objects.proofs.Rows.{book_at, object_named_at, placed_name, placed_row, placed_tag, row_still, row_then}
 use Rattle.oo7_objects.proofs.Stays.{still_of}
 use Rattle.oo7_objects.proofs.Steps.{read_told}
 
@@ -91,6 +91,7 @@ module _ {R : Type 0} (content : R → Option (List ℕ)) (old : TxnState R) (un
     pub record TellsReference (new : TxnState R) (i j : ℕ) (place : places_of.Place) : Type 0 where
       pub kept : Kept old new
       pub told : Knows new (λ st w. value_in (look_of w (name_at old st i)) place ≡ name_at new st j)
+      pub tag : IsReference new j
       pub row : KeepsRow old new j (j + 1)
 
     reference_told : (mid new : TxnState R) → mid.heap ≡ old.heap → (i j word : ℕ) (place : Place) → j < 512 → HasRead old mid i place true word → IsPlaced mid new j word true
@@ -100,6 +101,7 @@ module _ {R : Type 0} (content : R → Option (List ℕ)) (old : TxnState R) (un
     reference_told mid new same i j word place low read placed op op_is p step_is = record {
       kept = kept_then kept after;
       told = known_later (known_so tells (λ st w is. is ∙ sym (placed_name mid new j word within placed st))) after;
+      tag = placed_tag mid new j word within placed;
       row = row_then old mid new j (j + 1) same (read_row mid same i place true word read j (j + 1)) (placed_row mid new j word true placed);
     }
       where

@@ -20,7 +20,7 @@ use Rattle.oo7_objects.specs.Refusing.{IsOfRun, IsRefusal}
 use Rattle.oo7_objects.specs.Wholes.{IsReference, IsRooted, Kept, KeepsRow, Knows, Made, name_at, root_at}
 use Rattle.oo7_objects.proofs.Knowing.{kept_then, known_later, known_so, made_so, made_still, made_tells}
 use Rattle.oo7_objects.proofs.Moves.{DoesMore, has_done, kept_by, step_by}
-use Rattle.oo7_objects.proofs.Rows.{IsStillRow, book_at, placed_name, placed_row, refused_row, row_still, row_then, words_later}
+use Rattle.oo7_objects.proofs.Rows.{IsStillRow, book_at, placed_name, placed_row, placed_tag, refused_row, row_still, row_then, words_later}
 use Rattle.oo7_objects.proofs.Runs.{answer_in, is_made, part_in}
 use Rattle.oo7_objects.proofs.Stays.{still_of, stayed_kept, stayed_row, touch_stayed}
 
@@ -36,12 +36,14 @@ module _ {R : Type 0} (content : R → Option (List ℕ)) (old : TxnState R) (un
   pub record TellsRoot (new : TxnState R) (slot j : ℕ) : Type 0 where
     pub kept : Kept old new
     pub told : Knows new (λ st w. root_at w slot ≡ name_at new st j)
+    pub tag : IsReference new j
     pub row : KeepsRow old new j (j + 1)
 
   pub root_told : (new : TxnState R) (slot j : ℕ) → j < 512 → HasRootReadInto old new slot j → TellsRoot new slot j
   root_told new slot j low read = record {
     kept = kept_then kept after;
     told = known_later (known_so tells (λ st w is. is ∙ sym (placed_name read.mid new j read.word within read.placed st))) after;
+    tag = placed_tag read.mid new j read.word within read.placed;
     row = row_then old read.mid new j (j + 1) same (row_still content old read.mid same underway read.read.goes_on.keeps (still_of old read.mid read.read.touched.same) j (j + 1))
         (placed_row read.mid new j read.word true read.placed);
   }

@@ -1,9 +1,10 @@
 -- To what the places of a row lead from one moment to another.
-use Rattle.std.proofs.Common.{◌≡◌, ◌≢◌, ◌<◌, ◌≤◌, ◌+◌, ◌==◌, ◌∙◌, ◌⊎◌, inl, inr, ℕ, Bool, true, false, cond, List, length, Option, get_or-set_same, get_or-set_other, slice_index_or, unwrap_or, refl, sym, ap, subst, arith}
+use Rattle.std.proofs.Common.{◌≡◌, ◌≢◌, ◌<◌, ◌≤◌, ◌+◌, ◌==◌, ◌∙◌, ◌⊎◌, inl, inr, ℕ, Bool, true, false, cond, List, length, Option, Some, None, get_or-set_same, get_or-set_other, slice_index_or, unwrap_or, refl, sym, ap, subst, arith}
 use Rattle.std.proofs.lemmas.Bool.{ne_eqb}
 use Rattle.std.specs.FinMap.{get}
 use Rattle.atomic_table.specs.Seated.{TableId}
 use Rattle.pm3_core.specs.declared.naming.TheConstants.{BASE}
+use Rattle.pm3_types.specs.Layout.{address}
 use Rattle.pm3_types.specs.Shown.{Book, name_by}
 use Rattle.pm3_access.specs.Holding.{Holding}
 use Rattle.pm3_history.specs.Opens.{Opens}
@@ -13,6 +14,7 @@ use Rattle.pm3_table.specs.declared.view.Told.{Told}
 use Rattle.pm3_table.specs.declared.view.View.{View}
 use Rattle.pm3_table.specs.Deeds.{word_of}
 use Rattle.pm3_table.proofs.Put.{put_at, put_else}
+use Rattle.pm3_txn.specs.declared.faults.AccessFault.{AccessFault}
 use Rattle.pm3_txn.specs.Knowing.{state_seen}
 use Rattle.pm3_txn.specs.Owners.{KeepsObjects, KnowsHere, KnowsWordHere, name_here}
 use Rattle.pm3_txn.specs.Placing.{IsCleared, IsPlaced, IsRefusedPlace}
@@ -23,8 +25,13 @@ use Rattle.pm3_txn.specs.Underway.{IsUnderway}
 use Rattle.pm3_txn.specs.Works.{left_book}
 use Rattle.pm3_txn.proofs.Advancing.{moment}
 use Rattle.pm3_txn.proofs.Keeping.{name_on, place_here}
-use Rattle.oo7_objects.specs.Wholes.{IsReference, KeepsRow, name_at}
+use Rattle.oo7_objects.specs.Refusing.{IsRefusal}
+use Rattle.oo7_objects.specs.Wholes.{IsReference, Kept, KeepsRow, name_at}
 use Rattle.oo7_objects.proofs.Moves.{over_heap}
+
+pub either_nil : (b : Bool) → cond {A = ℕ} b 0 0 ≡ 0
+either_nil true = refl
+either_nil false = refl
 
 -- the book that a transaction has, whatever the files opened to
 abbrev pub book_at : {R : Type 0} → TxnState R → State → Book
@@ -41,6 +48,14 @@ pub place_known : {R : Type 0} (content : R → Option (List ℕ)) (t : TxnState
 place_known content t underway k tagged =
     place_here (told_in t) (view_in t) t.mutator.space t.held (slice_index_or t.mutator.wrote k false) (word_at t k) underway.holding (underway.known k tagged)
 
+-- a name that a book has at an address is the one of each book that goes on from it
+name_stays : (book more : Book) (a : ℕ) → ((n : ℕ) → get book a ≡ Some n → get more a ≡ Some n) → name_by book a ≢ 0 → name_by more a ≡ name_by book a
+name_stays book more a keeps some = of (get book a) refl
+  where
+    of : (o : Option ℕ) → get book a ≡ o → name_by more a ≡ name_by book a
+    of None is = absurd (some (ap (λ (o : Option ℕ). cond (a == 0) 0 (unwrap_or o 0)) is ∙ either_nil (a == 0)))
+    of (Some n) is = ap (λ (o : Option ℕ). cond (a == 0) 0 (unwrap_or o 0)) (keeps n is ∙ sym is)
+
 -- from a to b the row stayed as it was
 pub record IsStillRow {R : Type 0} (a b : TxnState R) : Type 0 where
   pub tags : (k : ℕ) → slice_index_or b.mutator.refs k false ≡ slice_index_or a.mutator.refs k false
@@ -49,7 +64,11 @@ pub record IsStillRow {R : Type 0} (a b : TxnState R) : Type 0 where
 module _ {R : Type 0} (content : R → Option (List ℕ)) where
   still_row : (a : TxnState R) → IsUnderway content a → (tag : ℕ) (n : MutatorState R) (g : Holding) → KeepsObjects (told_in a) (view_in a) a.held n.pass.1 g
       → IsStillRow a (moment a.heap tag n g) → (from end : ℕ) → KeepsRow a (moment a.heap tag n g) from end
-  still_row a underway tag n g keeps still from end = record { tags = λ k out. still.tags k; names = λ st opens k out. named st opens k (slice_index_or a.mutator.refs k false) refl }
+  still_row a underway tag n g keeps still from end = record {
+    tags = λ k out. still.tags k;
+    names = λ st opens k out. named st opens k (slice_index_or a.mutator.refs k false) refl;
+    spots = λ st opens page word some. name_stays (book_at a st) (book_at (moment a.heap tag n g) st) (address BASE page word) (λ m has. keeps.objects st opens (address BASE page word) m has) some;
+  }
     where
       named : (st : State) → Opens BASE (told_in a).pages (told_in a).opening st → (k : ℕ) (b : Bool) → slice_index_or a.mutator.refs k false ≡ b
           → name_at (moment a.heap tag n g) st k ≡ name_at a st k
@@ -109,6 +128,7 @@ module _ {R : Type 0} (mid new : TxnState R) (rest : new ≡ record mid { mutato
   put_row = record {
     tags = λ k out. tags k (apart k out);
     names = λ st opens k out. (λ i. cond (tags k (apart k out) i) (name_by (same_book st i) (words k (apart k out) i)) 0);
+    spots = λ st opens page at some. ap (λ (book : Book). name_by book (address BASE page at)) (same_book st);
   }
     where
       apart : (k : ℕ) → (k < j) ⊎ (j + 1 ≤ k) → k ≢ j
@@ -140,21 +160,38 @@ module _ {R : Type 0} where
       let book = same_book mid new placed.rest j word true placed.put st in
       λ i. cond (tag i) (name_by (book i) (is i)) 0
 
+  pub placed_tag : (mid new : TxnState R) (j word : ℕ) → j < length mid.mutator.refs → IsPlaced mid new j word true → IsReference new j
+  placed_tag mid new j word low placed = ap (λ (l : List Bool). slice_index_or l j false) placed.put.refs ∙ get_or-set_same mid.mutator.refs j true false low
+
   pub cleared_name : (mid new : TxnState R) (j : ℕ) → IsCleared mid new j → (st : State) → name_at new st j ≡ 0
   cleared_name mid new j cleared st =
       let is : word_at new j ≡ 0 = cleared.put.words j ∙ put_at (word_of (view_in mid).log) j 0 j refl in
-      ap (λ (w : ℕ). cond (slice_index_or new.mutator.refs j false) (name_by (book_at new st) w) 0) is ∙ either (slice_index_or new.mutator.refs j false)
-    where
-      either : (b : Bool) → cond {A = ℕ} b 0 0 ≡ 0
-      either true = refl
-      either false = refl
+      ap (λ (w : ℕ). cond (slice_index_or new.mutator.refs j false) (name_by (book_at new st) w) 0) is ∙ either_nil (slice_index_or new.mutator.refs j false)
 
   -- one stretch of calls after another
   pub row_then : (a b c : TxnState R) (from end : ℕ) → b.heap ≡ a.heap → KeepsRow a b from end → KeepsRow b c from end → KeepsRow a c from end
   row_then a b c from end same one two = record {
     tags = λ k out. two.tags k out ∙ one.tags k out;
     names = λ st opens k out. two.names st (subst (λ (x : TableId × Told). Opens BASE x.1.pages x.1.opening st) (sym same) opens) k out ∙ one.names st opens k out;
+    spots = λ st opens page word some. (let first = one.spots st opens page word some in
+        two.spots st (subst (λ (x : TableId × Told). Opens BASE x.1.pages x.1.opening st) (sym same) opens) page word (λ nil. some (sym first ∙ nil)) ∙ first);
   }
 
   pub row_same : (a : TxnState R) (from end : ℕ) → KeepsRow a a from end
-  row_same a from end = record { tags = λ k out. refl; names = λ st opens k out. refl }
+  row_same a from end = record { tags = λ k out. refl; names = λ st opens k out. refl; spots = λ st opens page word some. refl }
+
+  -- a refusal after reads is one of before them
+  pub refused_before : {a b : TxnState R} → Kept a b → (fault : AccessFault) → IsRefusal b fault → IsRefusal a fault
+  refused_before kept fault refused st opens = refused st (subst (λ (x : TableId × Told). Opens BASE x.1.pages x.1.opening st) (sym kept.heap) opens)
+
+  -- the tags of places that were left
+  pub tag_still : {a b : TxnState R} (k from end : ℕ) → KeepsRow a b from end → (k < from) ⊎ (end ≤ k) → IsReference a k → IsReference b k
+  tag_still k from end row out tagged = row.tags k out ∙ tagged
+
+  -- what leaves all places leaves these
+  pub row_wider : {a b : TxnState R} (from end : ℕ) → KeepsRow a b 0 0 → KeepsRow a b from end
+  row_wider from end row = record {
+    tags = λ k out. row.tags k (inr (omega arith));
+    names = λ st opens k out. row.names st opens k (inr (omega arith));
+    spots = row.spots;
+  }

@@ -5,7 +5,7 @@ use Rattle.pm3_core.specs.declared.naming.TheConstants.{BASE}
 use Rattle.pm3_types.specs.declared.places.Place.{Place}
 use Rattle.pm3_types.specs.Fields.{Fields}
 use Rattle.pm3_types.specs.Graph.{Part, PartOf}
-use Rattle.pm3_types.specs.Layout.{has_tail_by}
+use Rattle.pm3_types.specs.Layout.{address, has_tail_by}
 use Rattle.pm3_types.specs.Places.{is_place}
 use Rattle.pm3_types.specs.Record.{Record, blank}
 use Rattle.pm3_types.specs.Shown.{name_by}
@@ -48,14 +48,19 @@ abbrev pub name_at : {R : Type 0} → TxnState R → State → ℕ → ℕ
 name_at t st k =
     cond (slice_index_or t.mutator.refs k false) (name_by (left_book (state_seen (told_in t) (view_in t) st) t.held) (word_at t k)) 0
 
+-- the name of the object that begins at a word of a page, and 0 where none does
+abbrev pub name_on : {R : Type 0} → TxnState R → State → ℕ → ℕ → ℕ
+name_on t st page word = name_by (left_book (state_seen (told_in t) (view_in t) st) t.held) (address BASE page word)
+
 -- a place is tagged as a reference
 abbrev pub IsReference : {R : Type 0} → TxnState R → ℕ → Type 0
 IsReference t k = slice_index_or t.mutator.refs k false ≡ true
 
--- all places but those from one on and before another lead where they led
+-- All places but those from one on and before another lead where they led, and each object lies where it lay.
 pub record KeepsRow {R : Type 0} (a b : TxnState R) (from end : ℕ) : Type 0 where
   pub tags : (k : ℕ) → (k < from) ⊎ (end ≤ k) → slice_index_or b.mutator.refs k false ≡ slice_index_or a.mutator.refs k false
   pub names : (st : State) → Opens BASE (told_in a).pages (told_in a).opening st → (k : ℕ) → (k < from) ⊎ (end ≤ k) → name_at b st k ≡ name_at a st k
+  pub spots : (st : State) → Opens BASE (told_in a).pages (told_in a).opening st → (page word : ℕ) → name_on a st page word ≢ 0 → name_on b st page word ≡ name_on a st page word
 
 -- the store's catalog is that of designs
 abbrev pub HasClasses : {R : Type 0} → TxnState R → Type 0

@@ -65,6 +65,7 @@ pub fn reference<D: Disk>(
     requires classes { HasClasses txn.old }
     requires there { Knows txn.old (λ st w. HasPlace w (name_at txn.old st i) (places.Reference f)) }
     ensures told { OnOk result (Knows txn.new (λ st w. lookup.reference (look_of w) (name_at txn.old st i) f ≡ name_at txn.new st j)) }
+    ensures tag { OnOk result (IsReference txn.new j) }
     ensures kept { Kept txn.old txn.new }
     ensures row { KeepsRow txn.old txn.new j (j + 1) }
     ensures refused { IfErr result (IsRefusal txn.old) }

@@ -1,4 +1,4 @@
-//! Classes of objects.
+//! Classes and names of objects.
 ghost use Rattle.std.specs.Prelude.{◌≡◌, ◌<◌, ◌≢◌, IfOk, IfErr};
 ghost use Rattle.oo7_objects.specs.Refusing.{IsRefusal};
 ghost use Rattle.oo7_objects.specs.Wholes.{HasClasses, IsOfClass, Kept, KeepsRow, Knows, name_at};
@@ -28,4 +28,25 @@ pub fn type_of<D: Disk>(txn: &mut Txn<'_, D>, i: usize) -> Result<TypeNo, Access
     };
     stand(txn);
     Ok(ty)
+}
+
+/// The name of that object.
+pub fn name_of<D: Disk>(txn: &mut Txn<'_, D>, i: usize) -> Result<u64, AccessFault>
+    requires low { i < 512 }
+    requires classes { HasClasses txn.old }
+    requires some { Knows txn.old (λ st w. name_at txn.old st i ≢ 0) }
+    ensures told { IfOk result (λ name. Knows txn.new (λ st w. name_at txn.old st i ≡ name)) }
+    ensures kept { Kept txn.old txn.new }
+    ensures row { KeepsRow txn.old txn.new 0 0 }
+    ensures refused { IfErr result (IsRefusal txn.old) }
+{
+    stand(txn);
+    let name = match txn.name_of(i) {
+        Ok(name) => name,
+        Err(fault) => {
+            stand(txn);
+            return Err(fault);
+        }
+    };
+    Ok(name)
 }

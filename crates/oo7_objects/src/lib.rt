@@ -11,12 +11,14 @@ mod kinds;
 mod makes;
 mod places;
 mod roots;
+mod spots;
 mod standing;
 mod tails;
 
 pub use fields::{reference, set_reference, set_word, word};
-pub use kinds::type_of;
+pub use kinds::{name_of, type_of};
 pub use makes::make;
 pub use places::{clear, copy, is_nil};
 pub use roots::{root, set_root};
+pub use spots::{Spot, spot_of};
 pub use tails::{set_tail_ref, tail_len, tail_ref};

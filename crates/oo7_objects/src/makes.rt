@@ -3,7 +3,7 @@ ghost use Rattle.std.specs.Prelude.{◌≡◌, ◌<◌, ◌+◌, IfErr, OnOk, On
 ghost use Rattle.pm3_txn.specs.Making.{MayMake};
 ghost use Rattle.oo7_schema.specs.Schema.{schema};
 ghost use Rattle.oo7_objects.specs.Refusing.{IsRefusal};
-ghost use Rattle.oo7_objects.specs.Wholes.{HasClasses, HasNew, Kept, KeepsRow, Made, name_at, new_object};
+ghost use Rattle.oo7_objects.specs.Wholes.{HasClasses, HasNew, IsReference, Kept, KeepsRow, Made, name_at, new_object};
 
 use crate::standing::stand;
 use pm3_disk::Disk;
@@ -22,6 +22,7 @@ pub fn make<D: Disk>(
     requires classes { HasClasses txn.old }
     requires may { MayMake schema ty tail }
     ensures made { OnOk result (Made txn.old txn.new (λ st v w. HasNew w (name_at txn.new st j) (new_object ty tail) v)) }
+    ensures tag { OnOk result (IsReference txn.new j) }
     ensures kept { OnErr result (Kept txn.old txn.new) }
     ensures row { KeepsRow txn.old txn.new j (j + 1) }
     ensures refused { IfErr result (IsRefusal txn.old) }

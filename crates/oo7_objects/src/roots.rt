@@ -12,6 +12,7 @@ use pm3_txn::{AccessFault, Txn};
 pub fn root<D: Disk>(txn: &mut Txn<'_, D>, slot: u32, j: usize) -> Result<(), AccessFault>
     requires low { (slot < 16) × (j < 512) }
     ensures told { OnOk result (Knows txn.new (λ st w. root_at w slot ≡ name_at txn.new st j)) }
+    ensures tag { OnOk result (IsReference txn.new j) }
     ensures kept { Kept txn.old txn.new }
     ensures row { KeepsRow txn.old txn.new j (j + 1) }
     ensures refused { IfErr result (IsRefusal txn.old) }

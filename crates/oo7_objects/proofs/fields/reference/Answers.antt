@@ -10,6 +10,9 @@ returns-clause-told g c = (field_told g.D.Reader.Reader.content c.args.txn.now c
 pub returns-clause-kept : goal.returns-clause-kept
 returns-clause-kept g c = (field_told g.D.Reader.Reader.content c.args.txn.now c.stand.ensures.underway c.stand.ensures.frame c.requires.classes c.reference.new.self c.args.i c.args.f c.args.j c.requires.low.1 c.in_default.ensures.read).kept
 
+pub returns-clause-tag : goal.returns-clause-tag
+returns-clause-tag g c = (field_told g.D.Reader.Reader.content c.args.txn.now c.stand.ensures.underway c.stand.ensures.frame c.requires.classes c.reference.new.self c.args.i c.args.f c.args.j c.requires.low.1 c.in_default.ensures.read).tag
+
 pub returns-clause-row : goal.returns-clause-row
 returns-clause-row g c = (field_told g.D.Reader.Reader.content c.args.txn.now c.stand.ensures.underway c.stand.ensures.frame c.requires.classes c.reference.new.self c.args.i c.args.f c.args.j c.requires.low.1 c.in_default.ensures.read).row
 

@@ -7,6 +7,9 @@ use Rattle.oo7_objects.proofs.makes.make.Goals as goal
 pub returns-clause-made : goal.returns-clause-made
 returns-clause-made g c = (object_made g.D.Reader.Reader.content c.args.txn.now c.stand.ensures.underway c.stand.ensures.frame c.requires.classes c.make.new.self c.make.ensures.heap c.args.ty c.args.tail c.args.j c.requires.low c.in_default.ensures.made).made
 
+pub returns-clause-tag : goal.returns-clause-tag
+returns-clause-tag g c = (object_made g.D.Reader.Reader.content c.args.txn.now c.stand.ensures.underway c.stand.ensures.frame c.requires.classes c.make.new.self c.make.ensures.heap c.args.ty c.args.tail c.args.j c.requires.low c.in_default.ensures.made).tag
+
 pub returns-clause-row : goal.returns-clause-row
 returns-clause-row g c = (object_made g.D.Reader.Reader.content c.args.txn.now c.stand.ensures.underway c.stand.ensures.frame c.requires.classes c.make.new.self c.make.ensures.heap c.args.ty c.args.tail c.args.j c.requires.low c.in_default.ensures.made).row
 
