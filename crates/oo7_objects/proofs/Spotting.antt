@@ -27,7 +27,7 @@ use Rattle.pm3_txn.specs.Owners.{KnowsWordHere, name_here, own_use}
 use Rattle.pm3_txn.specs.Refusals.{with_read, word_at}
 use Rattle.pm3_txn.specs.States.{TxnState, told_in, view_in}
 use Rattle.pm3_txn.specs.Underway.{IsUnderway}
-use Rattle.pm3_txn.specs.Works.{is_own_page}
+use Rattle.pm3_txn.specs.Works.{is_own_start}
 use Rattle.oo7_schema.proofs.Testing.{or_cases}
 use Rattle.oo7_objects.specs.Wholes.{IsReference, Kept, Knows, name_at, name_on}
 use Rattle.oo7_objects.proofs.Rows.{book_at, place_known, reference_named}
@@ -49,9 +49,9 @@ opened_pages pages o st opens = subst (λ (n : ℕ). n ≤ 16384) opens.count (f
 
 -- a word that may be a reference and is not nil is the address of a word of the store
 memory_of : (told : Told) (v : View) (h : Holding) (a : ℕ) → own_use told v h a ≡ true → is_memory_reference BASE told.pages a ≡ true
-memory_of told v h a is = elim (or_cases (is_in_use told v.seen a) (is_memory_reference BASE told.pages a && is_own_page h (page_in BASE a)) is) [
+memory_of told v h a is = elim (or_cases (is_in_use told v.seen a) (is_memory_reference BASE told.pages a && is_own_start h a) is) [
   | inl used ↦ (and_parts (is_memory_reference BASE told.pages a) ((a == 0) || (nat_lt (page_in BASE a) told.frontier || some_has writes v.seen (page_in BASE a))) used).0
-  | inr own ↦ (and_parts (is_memory_reference BASE told.pages a) (is_own_page h (page_in BASE a)) own).0
+  | inr own ↦ (and_parts (is_memory_reference BASE told.pages a) (is_own_start h a) own).0
 ]
 
 address_parts : (pages a : ℕ) → a ≢ 0 → is_memory_reference BASE pages a ≡ true → (is_address BASE a ≡ true) × (page_in BASE a < pages)

@@ -35,3 +35,4 @@ pub mod PartRoom
 pub mod RootSteps
 pub mod BookSteps
 pub mod RootCalls
+pub mod StartsStay

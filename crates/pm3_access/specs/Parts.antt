@@ -1,5 +1,5 @@
 -- What stays of a holding when its volatile and its written images are moved out.
-use Rattle.std.specs.Prelude.{ℕ, ◌≡◌, ◌≢◌, ◌<◌, ◌≤◌, ◌+◌, ◌↔◌, ◌⊎◌, List, [], ◌∷◌, Option, None, Some}
+use Rattle.std.specs.Prelude.{ℕ, ◌≡◌, ◌≢◌, ◌<◌, ◌≤◌, ◌+◌, ◌↔◌, ◌⊎◌, ◌&&◌, ◌||◌, Bool, not, List, [], ◌∷◌, Option, None, Some}
 use Rattle.std.specs.Option.{option_map}
 use Rattle.std.specs.FinMap as map
 use Rattle.std.specs.FinSet as set
@@ -94,16 +94,25 @@ abbrev pub RestFreeIs : Option SpaceRest → (Numbers → Type 0) → Type 0
 RestFreeIs None holds = ⊥
 RestFreeIs (Some s) holds = holds s.free
 
--- the space after a commit: its images as they are now, these pages among the free ones, and no current page
-abbrev pub finished_space : SpaceRest → Images → Numbers → ℕ → SpaceState
-finished_space s volatile freed room = record { number = s.number; images = volatile; free = set.union s.free freed; room = room; current = None }
+-- the page has an image, among those of the space or the written ones
+abbrev pub is_filled : Images → Images → ℕ → Bool
+is_filled volatile written page = map.contains_key volatile page || map.contains_key written page
 
--- the same of a space or none; no room is lost but that of the pages added
-abbrev pub IsFinished : Option SpaceRest → Images → Numbers → Option SpaceState → Type 0
-IsFinished None volatile freed None = Unit {0}
-IsFinished None volatile freed (Some t) = ⊥
-IsFinished (Some s) volatile freed None = ⊥
-IsFinished (Some s) volatile freed (Some t) = (t ≡ finished_space s volatile freed t.room) × (s.room ≤ t.room + set.len freed)
+-- The space after a commit has its images as they are now, and no current page. Free are the pages that were and have no image now, and
+-- these pages besides. No room is lost but that of the pages added.
+pub record IsFinishedSpace (s : SpaceRest) (volatile written : Images) (freed : Numbers) (t : SpaceState) : Type 0 where
+  pub number : t.number ≡ s.number
+  pub images : t.images ≡ volatile
+  pub free : (page : ℕ) → set.contains t.free page ≡ ((set.contains s.free page && not (is_filled volatile written page)) || set.contains freed page)
+  pub room : s.room ≤ t.room + set.len freed
+  pub current : t.current ≡ None
+
+-- the same of a space or none
+abbrev pub IsFinished : Option SpaceRest → Images → Images → Numbers → Option SpaceState → Type 0
+IsFinished None volatile written freed None = Unit {0}
+IsFinished None volatile written freed (Some t) = ⊥
+IsFinished (Some s) volatile written freed None = ⊥
+IsFinished (Some s) volatile written freed (Some t) = IsFinishedSpace s volatile written freed t
 
 -- the image of the page was as it was found, and stays
 pub record Stays (page : ℕ) (found : Images) (pages written new_pages new_written : PageMap) : Type 0 where

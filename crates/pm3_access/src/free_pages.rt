@@ -1,10 +1,12 @@
 //! The free pages of a space.
-ghost use Rattle.std.specs.Prelude.{◌≡◌, ◌+◌, ◌<◌, ◌≤◌, ◌==◌, ◌^◌, max, not, length, filter, slice_index, vec_capacity, OnOk, OnErr, IsSome, MatchOption, Contains, EachIndex};
+ghost use Rattle.std.specs.Prelude.{◌≡◌, ◌+◌, ◌<◌, ◌≤◌, ◌==◌, ◌&&◌, ◌||◌, ◌^◌, ℕ, Bool, max, not, length, filter, slice_index, vec_capacity, OnOk, OnErr, IsSome, MatchOption, Contains, EachIndex};
 ghost use Rattle.std.specs.FinSet as set;
+ghost use Rattle.std.specs.Ordering.{nat_cmp};
 ghost use Rattle.pm3_page.specs.Next.{IsNext};
 ghost use Rattle.pm3_access.specs.FreeList.{with_pages};
+ghost use Rattle.pm3_access.specs.Parts.{is_filled};
 
-use pm3_page::{PageNo, PageSet};
+use pm3_page::{PageNo, PageSet, Pages};
 use pm3_types::Memory;
 use std::alloc::Global;
 use std::marker::Model;
@@ -133,6 +135,22 @@ impl FreePages {
         }
     }
 
+    /// The least page from a number on, or None exactly where there is none.
+    pub(crate) fn next(&self, start: PageNo) -> Option<PageNo>
+        ensures { IsNext (set.contains self.now.pages) start result }
+    {
+        least_from(&self.pages, start)
+    }
+
+    /// Takes out each page that has one of these images.
+    pub(crate) fn take_filled(&mut self, volatile: &Pages, written: &Pages)
+        ensures pages { (p : ℕ) → set.contains self.new.pages p ≡ (set.contains self.old.pages p && not (is_filled volatile.now.images written.now.images p)) }
+        ensures room { self.new.room ≡ self.old.room }
+        ensures kept { self.new.kept ≡ self.old.kept }
+    {
+        self.pages.retain(|page| volatile.get(*page).is_none() && written.get(*page).is_none());
+    }
+
     /// Takes the least page out, or answers None exactly where there is none.
     pub(crate) fn take_least(&mut self) -> Option<PageNo>
         ensures least { IsNext (set.contains self.old.pages) 0 result }
@@ -153,6 +171,30 @@ fn least_of(pages: &[PageNo]) -> Option<PageNo>
     ensures { MatchOption result (length pages.now ≡ 0) (λ least. Contains pages.now least × EachIndex pages.now (λ k. least ≤ slice_index pages.now k)) }
 {
     pages.iter().copied().min()
+}
+
+/// The least page of a list from a number on.
+fn least_from(pages: &[PageNo], start: PageNo) -> Option<PageNo>
+    ensures { IsNext (set.contains (set.from_list {R = nat_cmp} pages.now)) start result }
+{
+    let mut least = None;
+    for page in pages {
+        least = nearer(least, *page, start);
+    }
+    least
+}
+
+/// The nearer one of a page and the least of others, from a number on.
+fn nearer(least: Option<PageNo>, page: PageNo, start: PageNo) -> Option<PageNo>
+    ensures { (has : ℕ → Bool) → IsNext has start least → IsNext (λ q. (q == page) || has q) start result }
+{
+    if page < start {
+        return least;
+    }
+    match least {
+        Some(other) if other <= page => Some(other),
+        _ => Some(page),
+    }
 }
 
 /// Takes a page out of a list.

@@ -37,13 +37,19 @@ mod laws;
 #[cfg(test)]
 mod access_tests;
 #[cfg(test)]
-mod parting_tests;
+mod parted_trials;
 #[cfg(test)]
-mod root_tests;
+mod parting_tests;
 #[cfg(test)]
 mod tests;
 #[cfg(test)]
+mod trial_ends;
+#[cfg(test)]
 mod trial_steps;
+#[cfg(test)]
+mod trial_types;
+#[cfg(test)]
+mod trials;
 
 pub use held::Held;
 pub use laws::{

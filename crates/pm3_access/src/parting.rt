@@ -62,6 +62,13 @@ impl Parted {
         self.rest.has_space()
     }
 
+    /// Whether a page was held alone when it was found.
+    pub fn has_found(&self, page: PageNo) -> bool
+        ensures { result ≡ map.contains_key self.now.rest.found page }
+    {
+        self.rest.has_found(page)
+    }
+
     /// Joins the parts again.
     pub fn rejoin(self) -> Held
         requires { CanRejoin self }
@@ -118,6 +125,17 @@ impl Parted {
         space.free.add(page);
     }
 
+    /// The least free page from a number on, or None exactly where there is none.
+    pub fn next_free(&self, start: PageNo) -> Option<PageNo>
+        requires { is_some self.now.rest.space ≡ true }
+        ensures { RestFreeIs self.now.rest.space (λ free. IsNext (set.contains free) start result) }
+    {
+        let Some(space) = &self.rest.space else {
+            unreachable!()
+        };
+        space.free.next(start)
+    }
+
     /// Takes the least free page out, or answers None exactly where there is none.
     pub fn least_free(&mut self) -> Option<PageNo>
         requires { is_some self.old.rest.space ≡ true }
@@ -159,14 +177,14 @@ impl Parted {
         }
     }
 
-    /// Gives the pages and the space back as they are now, with the pages of `freed` among the free ones and without a current page.
-    /// It takes no memory.
+    /// Gives the pages and the space back as they are now. The space has no current page, and free are the pages that were and have no
+    /// image now, and those of `freed`. It takes no memory.
     pub fn finish(self, freed: &PageSet) -> Undone
         requires home { IsAtHome self.volatile.images }
         requires room { HasRoomFor self.rest.space (set.len freed.now) }
         ensures pages { result.pages.images ≡ self.rest.pages.images }
         ensures written { result.written.images ≡ self.written.images }
-        ensures space { IsFinished self.rest.space self.volatile.images freed.now result.space }
+        ensures space { IsFinished self.rest.space self.volatile.images self.written.images freed.now result.space }
     {
         let Parted {
             volatile,
@@ -179,13 +197,14 @@ impl Parted {
             found: _,
             space,
         } = rest;
+        let space = match space {
+            Some(space) => Some(space.finish(volatile, &written, freed)),
+            None => None,
+        };
         Undone {
             pages,
             written,
-            space: match space {
-                Some(space) => Some(space.finish(volatile, freed)),
-                None => None,
-            },
+            space,
         }
     }
 }

@@ -1,8 +1,9 @@
 //! What stays of a holding that was parted.
 ghost use Rattle.std.specs.Prelude.{◌≡◌, is_some};
+ghost use Rattle.std.specs.FinMap as map;
 
 use crate::rest_space::RestSpace;
-use pm3_page::Pages;
+use pm3_page::{PageNo, Pages};
 use std::alloc::Global;
 use std::marker::Model;
 
@@ -38,5 +39,12 @@ impl Rest {
         ensures { result ≡ is_some self.now.space }
     {
         self.space.is_some()
+    }
+
+    /// Whether a page was held alone when it was found.
+    pub(crate) fn has_found(&self, page: PageNo) -> bool
+        ensures { result ≡ map.contains_key self.now.found page }
+    {
+        self.found.get(page).is_some()
     }
 }

@@ -1,9 +1,9 @@
 //! What stays of a held space whose images were moved out.
-ghost use Rattle.std.specs.Prelude.{◌≡◌, ◌+◌, ◌<◌, ◌≤◌, ◌-◌, max, None, Some, OnOk, OnErr, MatchOption};
+ghost use Rattle.std.specs.Prelude.{◌≡◌, ◌<◌, ◌≤◌, ◌-◌, max, None, Some, OnOk, OnErr, MatchOption};
 ghost use Rattle.std.specs.FinSet as set;
 ghost use Rattle.pm3_access.specs.Holding.{AreHeld, undone_space};
 ghost use Rattle.pm3_page.specs.PageMap.{IsAtHome};
-ghost use Rattle.pm3_access.specs.Parts.{KeepsFound, rest_of, with_images, finished_space};
+ghost use Rattle.pm3_access.specs.Parts.{KeepsFound, rest_of, with_images, IsFinishedSpace};
 
 use crate::free_pages::FreePages;
 use crate::held_pages::HeldPages;
@@ -115,12 +115,12 @@ impl RestSpace {
         }
     }
 
-    /// The space with these images, with further free pages, and without a current page.
-    pub(crate) fn finish(self, volatile: Pages, freed: &PageSet) -> Space
+    /// The space with these images and without a current page. Free are the pages that were and have no image among these and the
+    /// written ones, and the pages of `freed`.
+    pub(crate) fn finish(self, volatile: Pages, written: &Pages, freed: &PageSet) -> Space
         requires home { IsAtHome volatile.images }
         requires room { set.len freed.now ≤ self.room }
-        ensures space { result ≡ finished_space self volatile.images freed.now result.room }
-        ensures room { self.room ≤ result.room + set.len freed.now }
+        ensures { IsFinishedSpace self volatile.images written.now.images freed.now result }
     {
         let RestSpace {
             number,
@@ -128,6 +128,7 @@ impl RestSpace {
             current: _,
             ..
         } = self;
+        free.take_filled(&volatile, written);
         free.release();
         free.add_set(freed);
         Space {

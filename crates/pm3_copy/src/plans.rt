@@ -1,7 +1,10 @@
 //! The plan of a pass.
+ghost use Rattle.std.specs.Prelude.{◌≡◌};
+ghost use Rattle.std.specs.FinSet as set;
+
 use crate::index::Index;
 use crate::leaving::Leaving;
-use pm3_page::PageSet;
+use pm3_page::{PageNo, PageSet};
 use std::marker::Model;
 
 /// The plan of a pass, as `plan` makes it: how many pages it wants, and how many objects move.
@@ -43,4 +46,20 @@ impl Model for Plan {
     } };
 
     ghost invariant = { λ p. AreBothNumbered BASE p.index.blocks.by_page.items p.index.numbers.items p.promoted p.kept };
+}
+
+impl Plan {
+    /// Whether a page turns persistent where it is.
+    pub fn turns(&self, page: PageNo) -> bool
+        ensures { result ≡ set.contains self.now.turned page }
+    {
+        self.turned.has(page)
+    }
+
+    /// How many pages the space gives up.
+    pub fn freed_count(&self) -> u32
+        ensures { result ≡ set.len self.now.freed }
+    {
+        self.freed.len()
+    }
 }

@@ -12,7 +12,7 @@ use Rattle.pm3_table.specs.declared.view.View.{View}
 use Rattle.pm3_table.specs.Deeds.{word_of}
 use Rattle.pm3_table.specs.Holds.{is_in}
 use Rattle.pm3_txn.specs.DrawnLaws.{IsAlike}
-use Rattle.pm3_txn.specs.Owners.{AdvancesOn, IsHolding, KnowsWordHere, RemembersHere}
+use Rattle.pm3_txn.specs.Owners.{AdvancesOn, HasNamesBelow, IsHolding, KnowsWordHere, RemembersHere}
 use Rattle.pm3_txn.specs.Placing.{IsPlaced, IsRefusedPlace, IsCleared}
 use Rattle.pm3_txn.specs.Puts.{HasPut, IsPinned, IsMarked}
 use Rattle.pm3_txn.specs.States.{MutatorState, TxnState, told_in, view_in}
@@ -59,12 +59,13 @@ moment heap tag m h = record { heap = heap; mutator = m; held = h; tag = tag }
 module _ {R : Type 0} (content : R → Option (List ℕ)) (heap : TableId × Told) (m n : MutatorState R) (h : Holding) (tag : ℕ) where
   -- with the words of its row as they were
   pub still_underway : n.pass.1 ≡ record m.pass.1 { log = n.pass.1.log; refusals = n.pass.1.refusals } → ((q : ℕ) → word_of n.pass.1.log q ≡ word_of m.pass.1.log q)
-      → n.refs ≡ m.refs → n.wrote ≡ m.wrote → n.space ≡ m.space → IsUnderway content (moment heap tag m h) → IsMutatorOf content heap n → IsUnderway content (moment heap tag n h)
-  still_underway view words refs wrote space was kept = record {
+      → n.refs ≡ m.refs → n.wrote ≡ m.wrote → n.space ≡ m.space → n.next_name ≡ m.next_name → IsUnderway content (moment heap tag m h) → IsMutatorOf content heap n → IsUnderway content (moment heap tag n h)
+  still_underway view words refs wrote space next was kept = record {
     mutator = kept;
     known = subst (λ (l : List Bool × List Bool). RemembersHere heap.1 n.pass.1 h l.0 l.1) (λ i. (sym refs i, sym wrote i))
         (row_kept heap.1 m.pass.1 n.pass.1 h h (keeps_same heap.1 m.pass.1 n.pass.1 h (ap (λ (x : View). x.seen) view)) m.refs m.wrote words was.known);
     holding = subst (λ (k : ℕ). IsHolding heap.1 n.pass.1 k h) (sym space) (holding_by heap.1 m.pass.1 n.pass.1 m.space h view was.holding);
+    named = subst (λ (k : ℕ). HasNamesBelow k h) (sym next) was.named;
   }
 
   -- a word was put at a place of the row
@@ -79,6 +80,7 @@ module _ {R : Type 0} (content : R → Option (List ℕ)) (heap : TableId × Tol
           (row_written heap.1 m.pass.1 n.pass.1 h h (keeps_same heap.1 m.pass.1 n.pass.1 h same_seen) m.refs m.wrote j word is_ref
           (let long : length m.refs ≡ 512 = was.mutator.tags.0 in omega (arith, long, low)) (let long : length m.wrote ≡ 512 = was.mutator.tags.1 in omega (arith, long, low)) put.words knows was.known);
       holding = subst (λ (k : ℕ). IsHolding heap.1 n.pass.1 k h) (sym put.space) (holding_by heap.1 m.pass.1 n.pass.1 m.space h put.view.1 was.holding);
+      named = subst (λ (k : ℕ). HasNamesBelow k h) (sym put.next_name) was.named;
     }
 
     pub put_placed : IsPinned heap.1.pages n j → n.pass.1.refusals ≡ m.pass.1.refusals → IsPlaced (moment heap tag m h) (moment heap tag n h) j word is_ref

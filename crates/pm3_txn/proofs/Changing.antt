@@ -8,7 +8,7 @@ use Rattle.std.specs.Cmp.{nat_cmp_total}
 use Rattle.pm3_core.specs.declared.naming.TheConstants.{BASE}
 use Rattle.pm3_types.specs.Fields.{Fields, is_reference}
 use Rattle.pm3_types.specs.Graph.{Part}
-use Rattle.pm3_types.specs.Layout.{PageImage, page_in, word_in, is_address, is_unmoved, begins_at, with_word_at}
+use Rattle.pm3_types.specs.Layout.{PageImage, page_in, word_in, is_address, is_start, is_unmoved, begins_at, with_word_at}
 use Rattle.pm3_types.specs.PageForm.{is_memory_reference}
 use Rattle.pm3_types.specs.Shown.{Book, Images, FitsImages, IsKnown, name_by, shown}
 use Rattle.pm3_graph.specs.declared.operations.Op.{Op}
@@ -24,6 +24,7 @@ use Rattle.pm3_access.specs.Holding.{Holding, HeldImages, HeldSpaceState, image_
 use Rattle.pm3_access.specs.Roots.{root_held, root_written}
 use Rattle.pm3_access.specs.Sound.{IsReferenceFor, refers_in, refers_by}
 use Rattle.pm3_access.specs.Spots.{IsValueFor, has_names}
+use Rattle.pm3_access.proofs.StartsStay.{starts_stay}
 use Rattle.pm3_access.proofs.HeldSheets.{changed, changed_by, changed_here, changed_else, written_is, get-left_images, get-found_images}
 use Rattle.pm3_access.proofs.Homes.{is_some_none}
 use Rattle.pm3_access.proofs.InPlace.{written_in_place}
@@ -95,6 +96,7 @@ pub record IsChange (h new : Holding) (page : ℕ) : Type 0 where
   pub now : PageImage
   pub there : image_in h page ≡ Some image
   pub is : changed h page now ≡ new
+  pub starts : (s : ℕ) → is_start image.sheet s ≡ true → is_start now.sheet s ≡ true
 
 pub written_change : (catalog : List Fields) (h new : Holding) (a : ℕ) (place : Place) (v : ℕ) → value_written catalog BASE h a place v ≡ Some new → IsChange h new (page_in BASE a)
 written_change catalog h new a place v is = of (image_in h (page_in BASE a)) refl
@@ -102,13 +104,21 @@ written_change catalog h new a place v is = of (image_in h (page_in BASE a)) ref
     written : option_map (changed h (page_in BASE a)) (written_by catalog (image_in h (page_in BASE a)) (word_in BASE a) place v) ≡ Some new
     written = sym (written_is catalog BASE h a place v) ∙ is
 
-    with_now : (image : PageImage) → image_in h (page_in BASE a) ≡ Some image → (o : Option PageImage) → option_map (changed h (page_in BASE a)) o ≡ Some new → IsChange h new (page_in BASE a)
-    with_now image there None e = absurd (is_some_none new e)
-    with_now image there (Some now) e = record { image = image; now = now; there = there; is = one_value (Some (changed h (page_in BASE a) now)) (changed h (page_in BASE a) now) new refl e }
+    with_now : (image : PageImage) → image_in h (page_in BASE a) ≡ Some image → (o : Option PageImage) → written_by catalog (Some image) (word_in BASE a) place v ≡ o
+        → option_map (changed h (page_in BASE a)) o ≡ Some new → IsChange h new (page_in BASE a)
+    with_now image there None made e = absurd (is_some_none new e)
+    with_now image there (Some now) made e = record {
+      image = image;
+      now = now;
+      there = there;
+      is = one_value (Some (changed h (page_in BASE a) now)) (changed h (page_in BASE a) now) new refl e;
+      starts = starts_stay catalog image now (word_in BASE a) place v made;
+    }
 
     of : (o : Option PageImage) → image_in h (page_in BASE a) ≡ o → IsChange h new (page_in BASE a)
     of None none = absurd (is_some_none new (sym (ap (λ (o : Option PageImage). option_map (changed h (page_in BASE a)) (written_by catalog o (word_in BASE a) place v)) none) ∙ written))
-    of (Some image) there = with_now image there (written_by catalog (image_in h (page_in BASE a)) (word_in BASE a) place v) written
+    of (Some image) there = with_now image there (written_by catalog (image_in h (page_in BASE a)) (word_in BASE a) place v)
+        (ap (λ (o : Option PageImage). written_by catalog o (word_in BASE a) place v) (sym there)) written
 
 pub rooted_change : (h new : Holding) (slot a : ℕ) → root_written h slot a ≡ Some new → IsChange h new 2
 rooted_change h new slot a is = of (map.get h.pages.left 2) refl is
@@ -123,6 +133,7 @@ rooted_change h new slot a is = of (map.get h.pages.left 2) refl is
       there = ap (λ (o : Option PageImage). option_or o (space_now h.space 2)) there;
       is = ap (λ (o : Option PageImage). changed_by o h 2 (with_word_at image (2 + slot) a)) there
           ∙ one_value (Some (record h { pages = with_image h.pages 2 (with_word_at image (2 + slot) a) })) (record h { pages = with_image h.pages 2 (with_word_at image (2 + slot) a) }) new refl e;
+      starts = λ s begins. begins;
     }
 
 module _ (catalog : List Fields) (st : State) (settled : IsSettled catalog st) (h : Holding) (done : List (Op × ℕ)) (runs : Runs catalog st h done) where

@@ -195,6 +195,7 @@ module _ {R : Type 0} where
     marks = has.marks;
     space = has.space;
     reader = has.reader;
+    next_name = has.next_name;
     view = has.view;
   }
 
@@ -207,6 +208,7 @@ module _ {R : Type 0} where
     marks = λ p. refl;
     space = refl;
     reader = refl;
+    next_name = refl;
     view = (refl, refl);
   })
 
@@ -230,6 +232,7 @@ module _ {R : Type 0} where
     marks = λ p. put.marks p ∙ has.marks p;
     space = put.space ∙ has.space;
     reader = put.reader ∙ has.reader;
+    next_name = put.next_name ∙ has.next_name;
     view = (
       put.view.0 ∙ has.view.0,
       put.view.1 ∙ (λ i. record (has.view.1 i) { log = new.pass.1.log; refusals = (calm ∙ ap (λ (v : View). v.refusals) has.view.1) i })

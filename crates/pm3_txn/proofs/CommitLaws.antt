@@ -62,7 +62,7 @@ steady_or false false written (inl low) = absurd (false≢true low)
 steady_or false false written (inr is) = is
 
 -- a persistent page is known to be one
-persistent_steady : (told : Told) (v : View) (p : ℕ) → (p < told.frontier) ⊎ (some_has writes v.seen p ≡ true) → is_steady told v p ≡ true
+pub persistent_steady : (told : Told) (v : View) (p : ℕ) → (p < told.frontier) ⊎ (some_has writes v.seen p ≡ true) → is_steady told v p ≡ true
 persistent_steady told v p (inl low) = steady_or (nat_lt p told.frontier) (is_in p v.steady) (some_has writes v.seen p) (inl (grind (arith, nat_tests, low)))
 persistent_steady told v p (inr has) = steady_or (nat_lt p told.frontier) (is_in p v.steady) (some_has writes v.seen p) (inr has)
 

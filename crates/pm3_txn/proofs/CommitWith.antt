@@ -39,7 +39,7 @@ use Rattle.pm3_table.specs.Names.{spare}
 use Rattle.pm3_table.specs.Ops.{gave, turned}
 use Rattle.pm3_table.specs.Words.{turn_unit}
 use Rattle.pm3_txn.specs.declared.values.Turn.{Turn as Turns}
-use Rattle.pm3_txn.specs.Committing.{AreFiled, AreWritable, HasFailed, HasGivenTurn, HasMadeRoom, HasRecorded, HasTurn, IsCommitFor, IsEndOf, IsEntryFor, IsParted, MayGive, done_by, end_of, failed_by}
+use Rattle.pm3_txn.specs.Committing.{AreFiled, AreWritable, HasFailed, HasGivenTurn, HasMadeRoom, HasRecorded, HasTurn, IsCommitFor, IsDoneOf, IsEndOf, IsEntryFor, IsEntryOf, IsParted, MayGive, done_by, end_of, failed_by}
 use Rattle.pm3_txn.specs.DrawnLaws.{IsAlike}
 use Rattle.pm3_txn.specs.Owners.{IsHolding}
 use Rattle.pm3_txn.specs.Runs.{RunsAfter}
@@ -49,20 +49,21 @@ use Rattle.pm3_txn.specs.Takes.{with_view}
 use Rattle.pm3_txn.specs.Underway.{Belongs, IsUnder, IsUnderway}
 use Rattle.pm3_txn.specs.Values.{IsTurnOf, WasStopped}
 use Rattle.pm3_txn.proofs.CommitLaws.{may_fail, may_record, runs_whole, writable, writable_wide}
+use Rattle.pm3_txn.proofs.NamesBelow.{names_none}
 use Rattle.pm3_txn.proofs.OwnerDraws.{holdings_draw}
 use Rattle.pm3_txn.proofs.Touched.{no_more}
 use Rattle.pm3_txn.proofs.TurnTaken.{given_turn, has_room, may_keep}
-use Rattle.pm3_txn.proofs.TurnValues.{high_low, is_fit, none_lost, turn_grown, turn_halted}
+use Rattle.pm3_txn.proofs.TurnValues.{entry_of, high_low, is_fit, none_lost, turn_grown, turn_halted}
 
-sheet_of : (o : Option PageImage) (sheet : Sheet) → sheet_in o ≡ Some sheet → (image : PageImage) × (o ≡ Some image) × (image.sheet ≡ sheet)
+pub sheet_of : (o : Option PageImage) (sheet : Sheet) → sheet_in o ≡ Some sheet → (image : PageImage) × (o ≡ Some image) × (image.sheet ≡ sheet)
 sheet_of None sheet is = absurd (cc is)
 sheet_of (Some image) sheet is = (image, refl, cc is)
 
-same_image : (a b : PageImage) → a.page ≡ b.page → a.sheet ≡ b.sheet → a ≡ b
+pub same_image : (a b : PageImage) → a.page ≡ b.page → a.sheet ≡ b.sheet → a ≡ b
 same_image a b page sheet = λ i. record { page = page i; sheet = sheet i }
 
 -- where no commit came no name was used
-still_spare : (n : ℕ) (xs : List ℕ) → is_in n xs ≡ true → is_in n (spare (some_has makes []) xs) ≡ true
+pub still_spare : (n : ℕ) (xs : List ℕ) → is_in n xs ≡ true → is_in n (spare (some_has makes []) xs) ≡ true
 still_spare n [] is = is
 still_spare n (x ∷ xs) is = of (x == n) (still_spare n xs) is
   where
@@ -134,6 +135,7 @@ module _ {D R : Type 0} (g : Ghosts D R) (content : R → Option (List ℕ)) (he
         known = λ q tagged. inl (kept.known q tagged);
         holding = subst (λ (k : ℕ). IsHolding told n.pass.1 k (joined p)) (sym (ap (λ (x : MutatorState R). x.space) given))
             (holdings_draw told (gave v (turn_unit told.pages)) n.pass.1 m.space (joined p) alike (ap (λ (x : MutatorState R). x.pass.1.spans) given) here.holding).1;
+        named = names_none n.next_name (joined p) under.alone;
       }
 
       counted : n.pass.1.faults ≡ g.faults made.journal.disk
@@ -164,6 +166,12 @@ module _ {D R : Type 0} (g : Ghosts D R) (content : R → Option (List ℕ)) (he
       abbrev d : Done
       d = done_by v.row e p
 
+      general : IsEntryOf catalog tag (turn_state made) p.written.images e
+      general = entry_of catalog tag (turn_state made) p.written.images e has.good.bounds.1 entry
+
+      done : IsDoneOf e p.written.images d
+      done = record { tag = refl; next_name = refl; high_page = refl; written_is = refl; pins = sym entry.none.0; moved = sym entry.none.1 }
+
       abbrev r : JournalRecord
       r = record_of made.journal.next e
 
@@ -171,10 +179,10 @@ module _ {D R : Type 0} (g : Ghosts D R) (content : R → Option (List ℕ)) (he
       writes = writable g content heap m (turn_state made) tag e p has parted small
 
       high : e.high_page ≤ told.pages
-      high = high_low g told v.lost v.seen (turn_unit told.pages) tag v.row (turn_state made) has.good small.0 e p entry writes filed
+      high = high_low g told v.lost v.seen (turn_unit told.pages) tag (turn_state made) has.good small.0 e p.written.images general d done writes filed
 
       pub fit : made.journal.next < 2 ^ 64 → tag < 2 ^ 32 → IsFit made.journal.pages r
-      fit due_low tag_low = is_fit g told v.lost v.seen (turn_unit told.pages) tag v.row (turn_state made) has.good small.0 e p entry writes filed due_low (let t = entry.tag_is in omega (arith, t, tag_low))
+      fit due_low tag_low = is_fit g told v.lost v.seen (turn_unit told.pages) tag (turn_state made) has.good small.0 e p.written.images general d done writes filed due_low (let t = entry.tag_is in omega (arith, t, tag_low))
 
       -- it is a commit of what is held
       held_as : (q : ℕ) (image : PageImage) → get h.pages.left q ≡ Some image → image.page ≡ q
@@ -248,7 +256,7 @@ module _ {D R : Type 0} (g : Ghosts D R) (content : R → Option (List ℕ)) (he
       -- the journal has it
       module _ (frame : FrameOfRuns) (journal : JournalState D) (whole : made.journal.stopped ≡ None) where
         lost_is : v.lost ≡ []
-        lost_is = none_lost g told v.lost v.seen (turn_unit told.pages) tag v.row (turn_state made) has.good small.0 e p entry writes filed whole
+        lost_is = none_lost g told v.lost v.seen (turn_unit told.pages) tag (turn_state made) has.good small.0 e p.written.images general d done writes filed whole
 
         module _ (grows : journal ≡ grown r journal.disk made.journal) (added : Steps (HasOneMore r) (g.content made.journal.disk) (g.content journal.disk))
             (calm : g.faults journal.disk ≡ g.faults made.journal.disk) where
@@ -256,7 +264,7 @@ module _ {D R : Type 0} (g : Ghosts D R) (content : R → Option (List ℕ)) (he
           records = record {
             good = subst (λ (l : List Done). IsTurnOf g told l (v.seen ++ d ∷ []) (turn_unit told.pages) (record { journal = journal; next_name = e.next_name; high_page = e.high_page; file = made.file; opened = made.opened.value })) (no_more v.lost)
                 (subst (λ (j : JournalState D). IsTurnOf g told v.lost (v.seen ++ d ∷ []) (turn_unit told.pages) (record { journal = j; next_name = e.next_name; high_page = e.high_page; file = made.file; opened = made.opened.value })) (sym grows)
-                (turn_grown g told v.lost v.seen (turn_unit told.pages) tag v.row (turn_state made) has.good small.0 e p entry writes filed journal.disk whole added calm));
+                (turn_grown g told v.lost v.seen (turn_unit told.pages) tag (turn_state made) has.good small.0 e p.written.images general d done writes filed journal.disk whole added calm));
             heard = (let first = has.heard in omega (arith, first, calm));
             may = may_record g content heap m (turn_state made) tag e p has parted small entry high frame lost_is;
           }
@@ -296,7 +304,7 @@ module _ {D R : Type 0} (g : Ghosts D R) (content : R → Option (List ℕ)) (he
             record {
               good = subst (λ (l : List Done). IsTurnOf g told (v.lost ++ d ∷ []) l (turn_unit told.pages) (record { journal = journal; next_name = made.next_name; high_page = made.high_page; file = made.file; opened = made.opened.value })) (no_more v.seen)
                   (subst (λ (j : JournalState D). IsTurnOf g told (v.lost ++ d ∷ []) v.seen (turn_unit told.pages) (record { journal = j; next_name = made.next_name; high_page = made.high_page; file = made.file; opened = made.opened.value })) (sym (halts at))
-                  (turn_halted g told v.lost v.seen (turn_unit told.pages) tag v.row (turn_state made) has.good small.0 e p entry writes filed journal.disk whole (part at) (rose at) up));
+                  (turn_halted g told v.lost v.seen (turn_unit told.pages) tag (turn_state made) has.good small.0 e p.written.images general d done writes filed journal.disk whole (part at) (rose at) up));
               heard = (let first = has.heard in omega (arith, first, up));
               may = may_fail g content heap m (turn_state made) tag e p has parted small entry high frame (lost_is frame journal whole);
             }

@@ -14,7 +14,7 @@ use Rattle.pm3_table.specs.Words.{turn_unit}
 use Rattle.pm3_txn.specs.declared.values.Value.{Value}
 use Rattle.pm3_txn.specs.Heaps.{IsBelow}
 use Rattle.pm3_txn.specs.OwnerLaws.{GoesFurther}
-use Rattle.pm3_txn.specs.Owners.{AdvancesOn, IsHolding, RemembersHere}
+use Rattle.pm3_txn.specs.Owners.{AdvancesOn, HasNamesBelow, IsHolding, RemembersHere}
 use Rattle.pm3_txn.specs.Slots.{pages_in, faults_in}
 use Rattle.pm3_txn.specs.States.{MutatorState}
 use Rattle.pm3_txn.specs.Takes.{HasTaken}
@@ -69,8 +69,11 @@ module _ {D R : Type 0} (g : Ghosts D R) (told : Told) (m n : MutatorState R) (u
       faults = view_of (λ v. v.faults) ∙ ap (λ (b : Bool). if b then counted_in (faults_in g) slot else m.pass.1.faults) apart;
     }
 
-    pub took_calm : (p.pass.1.refusals ≡ m.pass.1.refusals) × DrewNothing (moment heap tag m h) (moment heap tag p held)
-    took_calm = (view_of (λ v. v.refusals), (view_of (λ v. v.drew_pages), view_of (λ v. v.drew_names), view_of (λ v. v.filled)))
+    pub took_calm : p.next_name ≡ n.next_name → (p.pass.1.refusals ≡ m.pass.1.refusals) × DrewNothing (moment heap tag m h) (moment heap tag p held)
+    took_calm next = (
+      view_of (λ v. v.refusals),
+      (view_of (λ v. v.drew_pages), view_of (λ v. v.drew_names), view_of (λ v. v.filled), next ∙ ap (λ (x : MutatorState R). x.next_name) has.rest),
+    )
 
   -- and where it was given back
   pub back_further : (v : View) → v ≡ gave n.pass.1 u
@@ -89,9 +92,10 @@ module _ {R : Type 0} (content : R → Option (List ℕ)) (heap : TableId × Tol
 
   -- it is underway where it holds what it held
   pub further_underway : ((u : ℕ) → holds_of n.pass.1.holds u ≡ true → holds_of m.pass.1.holds u ≡ true) → ((q : ℕ) → word_of n.pass.1.log q ≡ word_of m.pass.1.log q)
-      → n.refs ≡ m.refs → n.wrote ≡ m.wrote → n.space ≡ m.space → IsMutatorOf content heap n → IsUnderway content (moment heap tag n h)
-  further_underway back words refs wrote space kept = record {
+      → n.refs ≡ m.refs → n.wrote ≡ m.wrote → n.space ≡ m.space → n.next_name ≡ m.next_name → IsMutatorOf content heap n → IsUnderway content (moment heap tag n h)
+  further_underway back words refs wrote space next kept = record {
     mutator = kept;
     known = subst (λ (l : List Bool × List Bool). RemembersHere heap.1 n.pass.1 h l.0 l.1) (λ i. (sym refs i, sym wrote i)) (row_kept heap.1 m.pass.1 n.pass.1 h h keeps_further m.refs m.wrote words was.known);
     holding = subst (λ (k : ℕ). IsHolding heap.1 n.pass.1 k h) (sym space) ((holdings_go_on heap.1 m.pass.1 n.pass.1 m.space h between below far was.holding).1 back);
+    named = subst (λ (k : ℕ). HasNamesBelow k h) (sym next) was.named;
   }

@@ -41,12 +41,12 @@ use Rattle.pm3_txn.proofs.Touched.{no_more}
 use Rattle.pm3_txn.proofs.TurnTaken.{given_turn}
 
 -- a page that a commit wrote has its image
-page_written : (told : Told) (seen : List Done) (d : Done) (q : ℕ) (image : PageImage) → (2 ≤ q) × (q < told.pages) → image.page ≡ q
-    → HasForm told.opening.catalog (is_in_use told seen) q image.sheet → get d.written q ≡ Some image.sheet → IsPageOf told (seen ++ d ∷ []) q image
+pub page_written : (told : Told) (seen : List Done) (d : Done) (q : ℕ) (image : PageImage) → (2 ≤ q) × (q < told.pages) → image.page ≡ q
+    → HasForm told.opening.catalog (is_in_use told (seen ++ d ∷ [])) q image.sheet → get d.written q ≡ Some image.sheet → IsPageOf told (seen ++ d ∷ []) q image
 page_written told seen d q image low home form written = record {
   low = low;
   home = home;
-  form = form_for_more told.opening.catalog (is_in_use told seen) (is_in_use told (seen ++ d ∷ [])) (use_later told seen (d ∷ [])) q image.sheet form;
+  form = form;
   known = λ sheet is. cc (sym last ∙ is);
   loaded = λ none. absurd (cc (sym last ∙ none));
   last = λ st opens. ap (λ (s : State). get s.pages q) (now_later told seen (d ∷ []) st)
@@ -119,7 +119,8 @@ module _ (told : Told) (v w : View) (p : Parted) (d : Done) (faults : ℕ) (unde
         held_now q image was,
         subst (λ (l : List Done). IsPageOf told l q image) (sym seen_now)
             (page_written told v.seen d q image (under.persistent q (ap is_some on)).low home
-            (subst (λ (n : ℕ). HasForm told.opening.catalog (is_in_use told v.seen) n image.sheet) home (under.form q image on))
+            (form_for_more told.opening.catalog (is_in_use told v.seen) (is_in_use told (v.seen ++ d ∷ [])) (use_later told v.seen (d ∷ [])) q image.sheet
+            (subst (λ (n : ℕ). HasForm told.opening.catalog (is_in_use told v.seen) n image.sheet) home (under.form q image on)))
             (ap (λ (m : Sheets). get m q) plain.0 ∙ get-sheets_of p.written.images q ∙ ap sheet_in is)),
       )
 

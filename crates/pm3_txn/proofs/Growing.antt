@@ -1,5 +1,6 @@
 -- A transaction that draws names and pages for its space, and opens a page of it.
-use Rattle.std.proofs.Common.{◌≡◌, ◌<◌, ◌≤◌, ◌+◌, ◌-◌, ◌^◌, ◌==◌, ◌||◌, ◌&&◌, ◌∙◌, inl, inr, ℕ, Bool, true, false, not, nat_le, List, Option, Some, None, is_some, refl, sym, ap, arith}
+use Rattle.std.proofs.Common.{◌≡◌, ◌<◌, ◌≤◌, ◌+◌, ◌-◌, ◌^◌, ◌==◌, ◌||◌, ◌&&◌, ◌∙◌, inl, inr, ℕ, max, Bool, true, false, not, nat_le, List, Option, Some, None, is_some, refl, sym, ap, arith}
+use Rattle.std.proofs.Math.Nat.{le-max_left}
 use Rattle.std.proofs.lemmas.Bool.{cases_eq, false≢true, eq-eqb, ne_eqb, and_from, le-leb}
 use Rattle.std.specs.Cmp.{nat_cmp_total, unsigned_tied}
 use Rattle.std.specs.Option.{option_map}
@@ -7,12 +8,13 @@ use Rattle.std.specs.FinMap.{entries, get}
 use Rattle.std.specs.FinSet as set
 use Rattle.std.specs.FinSet.{contains-insert, contains-remove, same_set, nat_cmp-IsAntisymmetric}
 use Rattle.atomic_table.specs.Seated.{TableId}
-use Rattle.pm3_types.specs.Layout.{PageImage, blank_sheet, end_of, used_in}
+use Rattle.pm3_core.specs.declared.naming.TheConstants.{BASE}
+use Rattle.pm3_types.specs.Layout.{PageImage, blank_sheet, end_of, page_in, used_in, word_in}
 use Rattle.pm3_page.specs.Next.{IsNext}
 use Rattle.pm3_page.specs.PageSheets.{sheets_over}
 use Rattle.pm3_access.specs.Acts.{space_found}
 use Rattle.pm3_access.specs.FreeList.{Numbers}
-use Rattle.pm3_access.specs.Holding.{Holding, HeldSpaceState, FreeIs, by_space, grown, with_free}
+use Rattle.pm3_access.specs.Holding.{Holding, HeldSpaceState, FreeIs, by_space, grown, space_now, with_free}
 use Rattle.pm3_access.specs.Making.{current_image, has_room_for, has_space_for}
 use Rattle.pm3_access.proofs.Homes as images_at
 use Rattle.pm3_table.specs.declared.unit.Limit.TheVariants.{Names, Pages}
@@ -32,11 +34,13 @@ use Rattle.pm3_txn.specs.Making.{HasGrownSpace}
 use Rattle.pm3_txn.specs.Owners.{IsHolding, MayHoldSpace}
 use Rattle.pm3_txn.specs.Spaces.{HasDrawnName, HasDrawnPage, HasFree, HasNone, HasOpenedPage, IsNameRefusal, IsPageShortage}
 use Rattle.pm3_txn.specs.States.{MutatorState}
-use Rattle.pm3_txn.specs.Takes.{with_view}
+use Rattle.pm3_txn.specs.Takes.{with_name, with_view}
 use Rattle.pm3_txn.specs.Underway.{IsMutatorOf, IsUnderway}
-use Rattle.pm3_txn.specs.Works.{is_own_page}
+use Rattle.pm3_txn.specs.OwnStarts.{starts_on}
+use Rattle.pm3_txn.specs.Works.{is_own_start}
 use Rattle.pm3_txn.proofs.Advancing.{moment}
 use Rattle.pm3_txn.proofs.Keeping.{FoundSame, Keeps, keeps_both, keeps_books, keeps_same, row_kept}
+use Rattle.pm3_txn.proofs.NamesBelow.{names_alike, names_rise}
 use Rattle.pm3_txn.proofs.OwnerDraws.{holdings_draw, holdings_reuse, drawn_names_are_unused}
 use Rattle.pm3_txn.proofs.OwnerFree.{holdings_free, holdings_room}
 use Rattle.pm3_txn.proofs.OwnerSteps.{draws_are_alike, settles_spread}
@@ -55,21 +59,22 @@ pub still_some : (f : HeldSpaceState → HeldSpaceState) (s : Option HeldSpaceSt
 still_some f None = refl
 still_some f (Some s) = refl
 
-free_pages : (free : HeldSpaceState → Numbers) (room : HeldSpaceState → ℕ) (h : Holding) (q : ℕ) → is_own_page (by_space (λ s. with_free s (free s) (room s)) h) q ≡ is_own_page h q
-free_pages free room h q = by h.space
+pub free_starts : (free : HeldSpaceState → Numbers) (room : HeldSpaceState → ℕ) (h : Holding) (a : ℕ) → is_own_start (by_space (λ s. with_free s (free s) (room s)) h) a ≡ is_own_start h a
+free_starts free room h a = by h.space
   where
-    by : (s : Option HeldSpaceState) → is_own_page (record { pages = h.pages; space = option_map (λ t. with_free t (free t) (room t)) s }) q ≡ is_own_page (record { pages = h.pages; space = s }) q
+    by : (s : Option HeldSpaceState) → is_own_start (record { pages = h.pages; space = option_map (λ t. with_free t (free t) (room t)) s }) a ≡ is_own_start (record { pages = h.pages; space = s }) a
     by None = refl
     by (Some s) = refl
 
-grown_pages : (image : PageImage) (h : Holding) (q : ℕ) → is_own_page h q ≡ true → is_own_page (by_space (λ s. grown s image) h) q ≡ true
-grown_pages image h q = by h.space
+grown_starts : (image : PageImage) (h : Holding) → space_now h.space image.page ≡ None → (a : ℕ) → is_own_start h a ≡ true → is_own_start (by_space (λ s. grown s image) h) a ≡ true
+grown_starts image h none a = by h.space none
   where
-    by : (s : Option HeldSpaceState) → is_own_page (record { pages = h.pages; space = s }) q ≡ true → is_own_page (record { pages = h.pages; space = option_map (λ t. grown t image) s }) q ≡ true
-    by None is = is
-    by (Some s) is = elim (cases_eq q image.page) [
-      | inl e ↦ ap is_some (images_at.get_same s.images.left image.page q image e)
-      | inr ne ↦ ap is_some (images_at.get_other s.images.left image.page q image ne) ∙ is
+    by : (s : Option HeldSpaceState) → space_now s image.page ≡ None → is_own_start (record { pages = h.pages; space = s }) a ≡ true
+        → is_own_start (record { pages = h.pages; space = option_map (λ t. grown t image) s }) a ≡ true
+    by None absent is = is
+    by (Some s) absent is = elim (cases_eq (page_in BASE a) image.page) [
+      | inl e ↦ absurd (false≢true (sym (ap (λ (o : Option PageImage). starts_on o (word_in BASE a)) (ap (get s.images.left) e ∙ absent)) ∙ is))
+      | inr ne ↦ ap (λ (o : Option PageImage). starts_on o (word_in BASE a)) (images_at.get_other s.images.left image.page (page_in BASE a) image ne) ∙ is
     ]
 
 -- and the same was found
@@ -82,7 +87,7 @@ found_both h k g first second = record { images = second.images ∙ first.images
 found_by : (h : Holding) (s : Option HeldSpaceState) → space_found s ≡ space_found h.space → FoundSame h (record { pages = h.pages; space = s })
 found_by h s same = record { images = ap (sheets_over (entries h.pages.found)) same; space = same }
 
-free_found : (free : HeldSpaceState → Numbers) (room : HeldSpaceState → ℕ) (h : Holding) → FoundSame h (by_space (λ s. with_free s (free s) (room s)) h)
+pub free_found : (free : HeldSpaceState → Numbers) (room : HeldSpaceState → ℕ) (h : Holding) → FoundSame h (by_space (λ s. with_free s (free s) (room s)) h)
 free_found free room h = found_by h (option_map (λ t. with_free t (free t) (room t)) h.space) (by h.space)
   where
     by : (s : Option HeldSpaceState) → space_found (option_map (λ t. with_free t (free t) (room t)) s) ≡ space_found s
@@ -105,20 +110,25 @@ pub record HasOnlyDrawn (v w : View) : Type 0 where
   pub mine : w.mine ≡ v.mine
   pub faults : w.faults ≡ v.faults
 
-module _ {R : Type 0} (content : R → Option (List ℕ)) (heap : TableId × Told) (m : MutatorState R) (w : View) (h g : Holding) (tag : ℕ) (was : IsUnderway content (moment heap tag m h)) (only : HasOnlyDrawn m.pass.1 w)
-    (grew : HasGrown heap.1 m.pass.1 h w m.space g) (pages : (q : ℕ) → is_own_page h q ≡ true → is_own_page g q ≡ true) (found : FoundSame h g) where
-  keeps : Keeps heap.1 m.pass.1 h w g
-  keeps = keeps_both heap.1 m.pass.1 w w h h g (keeps_same heap.1 m.pass.1 w h only.alike.seen) (keeps_books heap.1 w h g pages (λ st opens. grew.2) found)
+-- the mutator with another view and another next name
+abbrev noting : {R : Type 0} → MutatorState R → View → ℕ → MutatorState R
+noting m w next = record m { pass = (m.pass.0, w); next_name = next }
 
-  pub grown_underway : IsMutatorOf content heap (with_view m w) → IsUnderway content (moment heap tag (with_view m w) g)
-  grown_underway kept = record {
+module _ {R : Type 0} (content : R → Option (List ℕ)) (heap : TableId × Told) (m : MutatorState R) (w : View) (h g : Holding) (tag : ℕ) (was : IsUnderway content (moment heap tag m h)) (only : HasOnlyDrawn m.pass.1 w)
+    (grew : HasGrown heap.1 m.pass.1 h w m.space g) (starts : (a : ℕ) → is_own_start h a ≡ true → is_own_start g a ≡ true) (found : FoundSame h g) where
+  keeps : Keeps heap.1 m.pass.1 h w g
+  keeps = keeps_both heap.1 m.pass.1 w w h h g (keeps_same heap.1 m.pass.1 w h only.alike.seen) (keeps_books heap.1 w h g starts (λ st opens. grew.2) found)
+
+  pub grown_underway : (next : ℕ) → m.next_name ≤ next → IsMutatorOf content heap (noting m w next) → IsUnderway content (moment heap tag (noting m w next) g)
+  grown_underway next rose kept = record {
     mutator = kept;
     known = row_kept heap.1 m.pass.1 w h g keeps m.refs m.wrote (λ q. ap (λ (l : List Deed). word_of l q) only.log) was.known;
     holding = grew.1;
+    named = names_rise m.next_name next g rose (names_alike m.next_name h g grew.2 found.space was.named);
   }
 
-  pub has_grown : is_some g.space ≡ true → g.pages ≡ h.pages → HasGrownSpace (moment heap tag m h) (moment heap tag (with_view m w) g)
-  has_grown there same = record {
+  pub has_grown : (next : ℕ) → is_some g.space ≡ true → g.pages ≡ h.pages → HasGrownSpace (moment heap tag m h) (moment heap tag (noting m w next) g)
+  has_grown next there same = record {
     same = record {
       heap = refl;
       tag = refl;
@@ -167,15 +177,15 @@ module _ {R : Type 0} (content : R → Option (List ℕ)) (heap : TableId × Tol
   named : (n : ℕ) → HasGrown heap.1 v h (drew_name v n) m.space h
   named n = (let on = holdings_draw heap.1 v (drew_name v n) m.space h (draws_are_alike v n).2 refl was.holding in (on.0, on.1, refl))
 
-  pub named_underway : (n : ℕ) → IsMutatorOf content heap (with_view m (drew_name v n)) → IsUnderway content (moment heap tag (with_view m (drew_name v n)) h)
-  named_underway n kept = grown_underway content heap m (drew_name v n) h h tag was (only_named n) (named n) (λ q e. e) (found_itself h) kept
+  pub named_underway : (n : ℕ) → IsMutatorOf content heap (with_name m (drew_name v n) n) → IsUnderway content (moment heap tag (with_name m (drew_name v n) n) h)
+  named_underway n kept = grown_underway content heap m (drew_name v n) h h tag was (only_named n) (named n) (λ q e. e) (found_itself h) (max m.next_name (n + 1)) (le-max_left m.next_name (n + 1)) kept
 
-  pub has_drawn_name : (n : ℕ) → IsBelow heap.1 → 1 ≤ heap.1.next_name → n < 2 ^ 62 → IsNewName heap.1 v n → HasDrawnName (moment heap tag m h) (moment heap tag (with_view m (drew_name v n)) h) n
+  pub has_drawn_name : (n : ℕ) → IsBelow heap.1 → 1 ≤ heap.1.next_name → n < 2 ^ 62 → IsNewName heap.1 v n → HasDrawnName (moment heap tag m h) (moment heap tag (with_name m (drew_name v n) n) h) n
   has_drawn_name n below first low new =
       let unused : HasNoName heap.1 h n = drawn_names_are_unused heap.1 v m.space h n below was.mutator.lawful new was.holding in
       record {
-        grown = has_grown content heap m (drew_name v n) h h tag was (only_named n) (named n) (λ q e. e) (found_itself h) there refl;
-        drew = (omega arith, refl);
+        grown = has_grown content heap m (drew_name v n) h h tag was (only_named n) (named n) (λ q e. e) (found_itself h) (max m.next_name (n + 1)) there refl;
+        drew = record { pages_drawn = omega arith; names_drawn = refl; names_are = refl; noted = refl };
         filled = refl;
         held = refl;
         usable = record { drawn = (draws_are_alike v n).3; from = new.from; unmade = new.unmade; unused = unused; low = (let from = new.from in omega (arith, first, from), low) };
@@ -190,13 +200,13 @@ module _ {R : Type 0} (content : R → Option (List ℕ)) (heap : TableId × Tol
   full c k holding = (let on = holdings_draw heap.1 v (saw_full c v) m.space k (draws_are_alike v c).0 refl holding in (on.0, on.1, refl))
 
   pub names_full_underway : IsMutatorOf content heap (with_view m (saw_full 1 v)) → IsUnderway content (moment heap tag (with_view m (saw_full 1 v)) h)
-  names_full_underway kept = grown_underway content heap m (saw_full 1 v) h h tag was (only_full 1) (full 1 h was.holding) (λ q e. e) (found_itself h) kept
+  names_full_underway kept = grown_underway content heap m (saw_full 1 v) h h tag was (only_full 1) (full 1 h was.holding) (λ q e. e) (found_itself h) m.next_name (omega arith) kept
 
   pub names_full : IsNameRefusal (moment heap tag m h) (moment heap tag (with_view m (saw_full 1 v)) h) (Full Names (2 ^ 62))
   names_full = record {
     full = refl;
-    grown = has_grown content heap m (saw_full 1 v) h h tag was (only_full 1) (full 1 h was.holding) (λ q e. e) (found_itself h) there refl;
-    drew = (omega arith, omega arith);
+    grown = has_grown content heap m (saw_full 1 v) h h tag was (only_full 1) (full 1 h was.holding) (λ q e. e) (found_itself h) m.next_name there refl;
+    drew = record { pages_drawn = omega arith; names_drawn = omega arith; names_are = refl; noted = refl };
     filled = refl;
   }
 
@@ -217,11 +227,15 @@ module _ {R : Type 0} (content : R → Option (List ℕ)) (heap : TableId × Tol
     roomy_found : FoundSame h roomy
     roomy_found = free_found (λ s. s.free) more h
 
-    roomy_pages : (q : ℕ) → is_own_page h q ≡ true → is_own_page roomy q ≡ true
-    roomy_pages q own = free_pages (λ s. s.free) more h q ∙ own
+    roomy_starts : (a : ℕ) → is_own_start h a ≡ true → is_own_start roomy a ≡ true
+    roomy_starts a own = free_starts (λ s. s.free) more h a ∙ own
+
+    pub roomy_underway : IsUnderway content (moment heap tag m roomy)
+    roomy_underway = grown_underway content heap m v h roomy tag was (record { alike = record { seen = refl; holds = refl; steady = refl; names = λ n e. e }; log = refl; refusals = refl; row = refl; mine = refl; faults = refl })
+        room_grown roomy_starts roomy_found m.next_name (omega arith) was.mutator
 
     pub pages_full_underway : IsMutatorOf content heap (with_view m (saw_full 0 v)) → IsUnderway content (moment heap tag (with_view m (saw_full 0 v)) roomy)
-    pages_full_underway kept = grown_underway content heap m (saw_full 0 v) h roomy tag was (only_full 0) pages_full_grown roomy_pages roomy_found kept
+    pages_full_underway kept = grown_underway content heap m (saw_full 0 v) h roomy tag was (only_full 0) pages_full_grown roomy_starts roomy_found m.next_name (omega arith) kept
 
     same_current : (s : Option HeldSpaceState) → current_image (option_map (λ t. with_free t t.free (more t)) s) ≡ current_image s
     same_current None = refl
@@ -234,8 +248,8 @@ module _ {R : Type 0} (content : R → Option (List ℕ)) (heap : TableId × Tol
     pub pages_full : IsPageShortage (moment heap tag m h) (moment heap tag (with_view m (saw_full 0 v)) roomy) (Full Pages heap.1.pages)
     pages_full = record {
       full = refl;
-      grown = has_grown content heap m (saw_full 0 v) h roomy tag was (only_full 0) pages_full_grown roomy_pages roomy_found roomy_some refl;
-      drew = (omega arith, omega arith);
+      grown = has_grown content heap m (saw_full 0 v) h roomy tag was (only_full 0) pages_full_grown roomy_starts roomy_found m.next_name roomy_some refl;
+      drew = record { pages_drawn = omega arith; names_drawn = omega arith; names_are = refl; noted = refl };
       filled = refl;
       current = same_current h.space;
       free = same_none h.space;
@@ -268,11 +282,11 @@ module _ {R : Type 0} (content : R → Option (List ℕ)) (heap : TableId × Tol
       freer_found : FoundSame h freer
       freer_found = found_both h roomy freer roomy_found (free_found (λ s. set.insert s.free page) room roomy)
 
-      freer_pages : (q : ℕ) → is_own_page h q ≡ true → is_own_page freer q ≡ true
-      freer_pages q own = free_pages (λ s. set.insert s.free page) room roomy q ∙ roomy_pages q own
+      freer_starts : (a : ℕ) → is_own_start h a ≡ true → is_own_start freer a ≡ true
+      freer_starts a own = free_starts (λ s. set.insert s.free page) room roomy a ∙ roomy_starts a own
 
       pub paged_underway : IsMutatorOf content heap (with_view m w) → IsUnderway content (moment heap tag (with_view m w) freer)
-      paged_underway kept = grown_underway content heap m w h freer tag was only_paged paged freer_pages freer_found kept
+      paged_underway kept = grown_underway content heap m w h freer tag was only_paged paged freer_starts freer_found m.next_name (omega arith) kept
 
       has_page : (s : Option HeldSpaceState) → is_some s ≡ true → HasFree (option_map (λ t. with_free t (set.insert t.free page) (room t)) s)
       has_page None is = absurd (false≢true is)
@@ -280,8 +294,8 @@ module _ {R : Type 0} (content : R → Option (List ℕ)) (heap : TableId × Tol
 
       pub has_drawn_page : HasDrawnPage (moment heap tag m h) (moment heap tag (with_view m w) freer)
       has_drawn_page = record {
-        grown = has_grown content heap m w h freer tag was only_paged paged freer_pages freer_found (still_some (λ s. with_free s (set.insert s.free page) (room s)) roomy.space ∙ roomy_some) refl;
-        drew = (refl, omega arith);
+        grown = has_grown content heap m w h freer tag was only_paged paged freer_starts freer_found m.next_name (still_some (λ s. with_free s (set.insert s.free page) (room s)) roomy.space ∙ roomy_some) refl;
+        drew = record { pages_drawn = refl; names_drawn = omega arith; names_are = refl; noted = refl };
         free = has_page roomy.space roomy_some;
       }
 
@@ -299,11 +313,16 @@ module _ {R : Type 0} (content : R → Option (List ℕ)) (heap : TableId × Tol
     opened_found : FoundSame h opened
     opened_found = found_both h (unfreed h image.page) opened (free_found (λ s. set.remove s.free image.page) (λ s. s.room + 1) h) (grown_found image (unfreed h image.page))
 
-    opened_pages : (q : ℕ) → is_own_page h q ≡ true → is_own_page opened q ≡ true
-    opened_pages q own = grown_pages image (unfreed h image.page) q (free_pages (λ s. set.remove s.free image.page) (λ s. s.room + 1) h q ∙ own)
+    unfreed_absent : (s : Option HeldSpaceState) → MayHoldSpace heap.1 v m.space s → FreeIs s (λ free. set.contains free image.page ≡ true)
+        → space_now (option_map (λ t. with_free t (set.remove t.free image.page) (t.room + 1)) s) image.page ≡ None
+    unfreed_absent None held free = absurd free
+    unfreed_absent (Some s) held free = held.1.free image.page free
+
+    opened_starts : (a : ℕ) → is_own_start h a ≡ true → is_own_start opened a ≡ true
+    opened_starts a own = grown_starts image (unfreed h image.page) (unfreed_absent h.space was.holding.space is) a (free_starts (λ s. set.remove s.free image.page) (λ s. s.room + 1) h a ∙ own)
 
     pub opened_underway : IsUnderway content (moment heap tag m opened)
-    opened_underway = grown_underway content heap m v h opened tag was itself reused opened_pages opened_found was.mutator
+    opened_underway = grown_underway content heap m v h opened tag was itself reused opened_starts opened_found m.next_name (omega arith) was.mutator
 
     unheld : (s : Option HeldSpaceState) → MayHoldSpace heap.1 v m.space s → FreeIs s (λ free. set.contains free image.page ≡ true) → 3 ≤ image.page
     unheld None held free = absurd free
@@ -324,9 +343,9 @@ module _ {R : Type 0} (content : R → Option (List ℕ)) (heap : TableId × Tol
 
     pub has_opened : HasOpenedPage (moment heap tag m h) (moment heap tag m opened)
     has_opened = record {
-      grown = has_grown content heap m v h opened tag was itself reused opened_pages opened_found
+      grown = has_grown content heap m v h opened tag was itself reused opened_starts opened_found m.next_name
           (still_some (λ s. grown s image) (unfreed h image.page).space ∙ still_some (λ s. with_free s (set.remove s.free image.page) (s.room + 1)) h.space ∙ there) refl;
-      drew = (omega arith, omega arith);
+      drew = record { pages_drawn = omega arith; names_drawn = omega arith; names_are = refl; noted = refl };
       room = roomy_page h.space there (unheld h.space was.holding.space is);
     }
 

@@ -198,8 +198,8 @@ module _ {D R : Type 0} (g : Ghosts D R) (s : Opened D R) (open_is : IsOpenStore
   heard = ap (counted_in (faults_in g)) turn_value ∙ ap (λ (j : _). g.faults j.disk) journal
 
   pub first_is : (reader : R) (refs wrote : List Bool) (pass : TableId × View) (id : TableId) → pass.0 ≡ id → pass.1 ≡ first_view (g.faults s.journal.disk) → refs ≡ replicate 512 true → wrote ≡ replicate 512 false
-      → record { pass = pass; space = 0; reader = reader; refs = refs; wrote = wrote } ≡ first_mutator id (g.faults s.journal.disk) reader
-  first_is reader refs wrote pass id of view refs_are wrote_are = λ i. record { pass = (of i, view i); space = 0; reader = reader; refs = refs_are i; wrote = wrote_are i }
+      → record { pass = pass; space = 0; reader = reader; refs = refs; wrote = wrote; next_name = 0 } ≡ first_mutator id (g.faults s.journal.disk) reader
+  first_is reader refs wrote pass id of view refs_are wrote_are = λ i. record { pass = (of i, view i); space = 0; reader = reader; refs = refs_are i; wrote = wrote_are i; next_name = 0 }
 
   pub first_belongs : (content : R → Option (List ℕ)) (heap : TableId × Told) (m : MutatorState R) (reader : R) → T ≡ heap.1 → m ≡ first_mutator heap.0 (g.faults s.journal.disk) reader
       → content reader ≡ g.content s.pages → Belongs content heap m

@@ -8,7 +8,7 @@ use Rattle.std.specs.FinMap.{get, get-empty, insert}
 use Rattle.pm3_core.specs.declared.naming.TheConstants.{BASE}
 use Rattle.pm3_core.specs.Machine.{put}
 use Rattle.pm3_types.specs.Graph.{PartOf}
-use Rattle.pm3_types.specs.Layout.{PageImage, page_in}
+use Rattle.pm3_types.specs.Layout.{PageImage, page_in, word_in}
 use Rattle.pm3_types.specs.PageForm.{is_memory_reference}
 use Rattle.pm3_types.specs.Shown.{Book, shown}
 use Rattle.pm3_types.proofs.Parts.{part_of_part}
@@ -35,7 +35,8 @@ use Rattle.pm3_txn.specs.Heaps.{IsBelow}
 use Rattle.pm3_txn.specs.Knowing.{KnowsReference, KnowsWord, is_in_use, state_seen}
 use Rattle.pm3_txn.specs.OwnerLaws.{GoesFurther}
 use Rattle.pm3_txn.specs.Owners.{IsHolding, KeepsObjects, KnowsHere, KnowsWordHere, KnowsPlace, RemembersHere, found_here, name_here}
-use Rattle.pm3_txn.specs.Works.{Works, book_with, found_book, left_book, is_own_page}
+use Rattle.pm3_txn.specs.OwnStarts.{starts_on}
+use Rattle.pm3_txn.specs.Works.{Works, book_with, found_book, left_book, is_own_start}
 use Rattle.pm3_txn.proofs.FoundStays.{found_after, found_more, part_same}
 use Rattle.pm3_txn.proofs.OwnBooks.{get-space_left, with_old, into}
 use Rattle.pm3_txn.proofs.OwnerAnswers.{known_are_here}
@@ -88,28 +89,28 @@ found_same told v h g st same =
     part_same (found_here told v h st) (found_here told v g st) (λ i. shown told.opening.catalog BASE (book_with (state_seen told v st) (space i)) (images i))
 
 -- with another holding in which the pages of the space are, and its objects
-pub keeps_by : (told : Told) (v : View) (h g : Holding) → ((q : ℕ) → is_own_page h q ≡ true → is_own_page g q ≡ true)
+pub keeps_by : (told : Told) (v : View) (h g : Holding) → ((a : ℕ) → is_own_start h a ≡ true → is_own_start g a ≡ true)
     → ((st : State) → Opens BASE told.pages told.opening st → (a n : ℕ) → get (left_book (state_seen told v st) h) a ≡ Some n → get (left_book (state_seen told v st) g) a ≡ Some n)
     → ((st : State) → Opens BASE told.pages told.opening st → PartOf (found_here told v h st) (found_here told v g st)) → Keeps told v h v g
-keeps_by told v h g pages objects found = record {
+keeps_by told v h g starts objects found = record {
   objects = record {
-    usable = λ a is. use_up (is_in_use told v.seen a) (is_in_use told v.seen a) (is_memory_reference BASE told.pages a) (is_own_page h (page_in BASE a)) (is_own_page g (page_in BASE a)) (λ e. e) (pages (page_in BASE a)) is;
+    usable = λ a is. use_up (is_in_use told v.seen a) (is_in_use told v.seen a) (is_memory_reference BASE told.pages a) (is_own_start h a) (is_own_start g a) (λ e. e) (starts a) is;
     objects = objects;
     found = found;
   };
   word = λ a known. known;
 }
 
-pub keeps_books : (told : Told) (v : View) (h g : Holding) → ((q : ℕ) → is_own_page h q ≡ true → is_own_page g q ≡ true)
+pub keeps_books : (told : Told) (v : View) (h g : Holding) → ((a : ℕ) → is_own_start h a ≡ true → is_own_start g a ≡ true)
     → ((st : State) → Opens BASE told.pages told.opening st → book_of BASE (space_left g.space) ≡ book_of BASE (space_left h.space)) → FoundSame h g → Keeps told v h v g
-keeps_books told v h g pages books found = keeps_by told v h g pages
+keeps_books told v h g starts books found = keeps_by told v h g starts
     (λ st opens a n is. ap (λ (b : Book). get (laid (persistent_book BASE (state_seen told v st)) b) a) (books st opens) ∙ is) (λ st opens. found_same told v h g st found)
 
 -- where the view has seen the same
 pub keeps_same : (told : Told) (v w : View) (h : Holding) → w.seen ≡ v.seen → Keeps told v h w h
 keeps_same told v w h seen = record {
   objects = record {
-    usable = λ a is. ap (λ (l : List Done). is_in_use told l a || (is_memory_reference BASE told.pages a && is_own_page h (page_in BASE a))) seen ∙ is;
+    usable = λ a is. ap (λ (l : List Done). is_in_use told l a || (is_memory_reference BASE told.pages a && is_own_start h a)) seen ∙ is;
     objects = λ st opens a n is. ap (λ (l : List Done). get (left_book (now told.opening.catalog BASE st l) h) a) seen ∙ is;
     found = λ st opens. part_same (found_here told v h st) (found_here told w h st)
         (ap (λ (l : List Done). found_part told.opening.catalog BASE (found_book (now told.opening.catalog BASE st l) h) h) (sym seen));
@@ -145,7 +146,7 @@ module _ (told : Told) (v w : View) (number : ℕ) (h : Holding) (between : List
   pub keeps_later : Keeps told v h w h
   keeps_later = record {
     objects = record {
-      usable = λ a. use_up (is_in_use told v.seen a) (is_in_use told w.seen a) (is_memory_reference BASE told.pages a) (is_own_page h (page_in BASE a)) (is_own_page h (page_in BASE a))
+      usable = λ a. use_up (is_in_use told v.seen a) (is_in_use told w.seen a) (is_memory_reference BASE told.pages a) (is_own_start h a) (is_own_start h a)
           (λ is. ap (λ (l : List Done). is_in_use told l a) far.seen ∙ use_later told v.seen between a is) (λ e. e);
       objects = object_later;
       found = found_later;
@@ -218,10 +219,10 @@ keeps_spaced told v number h space none lawful before then =
     (found_further told v h (with_held_space h space) lawful before then.works (spaced_pages h space none))
 
 -- with an object more, at an address where there was none
-pub keeps_made : (told : Told) (v : View) (h g : Holding) (a n : ℕ) → ((q : ℕ) → is_own_page h q ≡ true → is_own_page g q ≡ true)
+pub keeps_made : (told : Told) (v : View) (h g : Holding) (a n : ℕ) → ((b : ℕ) → is_own_start h b ≡ true → is_own_start g b ≡ true)
     → ((st : State) → Opens BASE told.pages told.opening st
     → (get (left_book (state_seen told v st) h) a ≡ None) × (book_of BASE (space_left g.space) ≡ insert (book_of BASE (space_left h.space)) a n)) → FoundSame h g → Keeps told v h v g
-keeps_made told v h g a n pages books found = keeps_by told v h g pages (λ st opens b m is. (let made = books st opens in
+keeps_made told v h g a n starts books found = keeps_by told v h g starts (λ st opens b m is. (let made = books st opens in
     ap (λ (k : Book). get (laid (persistent_book BASE (state_seen told v st)) k) b) made.1 ∙ of st made.0 b m is)) (λ st opens. found_same told v h g st found)
   where
     of : (st : State) → get (left_book (state_seen told v st) h) a ≡ None → (b m : ℕ) → get (left_book (state_seen told v st) h) b ≡ Some m
@@ -241,7 +242,7 @@ off_by false false e = e
 pub off_known : (told : Told) (v : View) (h : Holding) (a : ℕ) → space_now h.space (page_in BASE a) ≡ None → KnowsHere told v h a → KnowsReference told v a
 off_known told v h a off known = record {
   usable = off_by (is_in_use told v.seen a) (is_memory_reference BASE told.pages a)
-      (ap (λ (o : Option PageImage). is_in_use told v.seen a || (is_memory_reference BASE told.pages a && is_some o)) (sym off) ∙ known.usable);
+      (ap (λ (o : Option PageImage). is_in_use told v.seen a || (is_memory_reference BASE told.pages a && starts_on o (word_in BASE a))) (sym off) ∙ known.usable);
   object = λ st opens. ap is_some (sym (with_old (state_seen told v st) (space_left h.space) a (get-space_left h.space (page_in BASE a) ∙ ap sheet_in off))) ∙ known.object st opens;
 }
 

@@ -1,5 +1,5 @@
 -- What a transaction knows of its objects stays known where it writes one, or a root slot.
-use Rattle.std.proofs.Common.{◌≡◌, ◌∙◌, ℕ, true, Option, Some, None, unwrap_or, sym, ap, refl}
+use Rattle.std.proofs.Common.{◌≡◌, ◌∙◌, ℕ, true, Option, Some, None, unwrap_or, sym, ap, refl, subst}
 use Rattle.std.specs.Option.{option_map}
 use Rattle.std.specs.FinMap.{get}
 use Rattle.pm3_core.specs.declared.naming.TheConstants.{BASE}
@@ -21,17 +21,17 @@ use Rattle.pm3_table.specs.declared.view.View.{View}
 use Rattle.pm3_table.specs.Telling.{Lawful}
 use Rattle.pm3_txn.specs.Knowing.{state_seen}
 use Rattle.pm3_txn.specs.Owners.{IsHolding, KnowsHere, KnowsWordHere, name_here}
-use Rattle.pm3_txn.specs.Works.{left_book, is_own_page}
+use Rattle.pm3_txn.specs.Works.{left_book, is_own_start}
 use Rattle.pm3_txn.proofs.Changing.{IsChange, changed_found, rooted_change, written_change}
 use Rattle.pm3_txn.proofs.Keeping.{FoundSame, Keeps, keeps_books}
 use Rattle.pm3_txn.proofs.OwnerAnswers.{known_word}
 use Rattle.pm3_txn.proofs.Seeing.{settled_now}
 use Rattle.pm3_txn.proofs.WorksChange.{write_own}
-use Rattle.pm3_txn.proofs.WorksOwn.{own_page_still, space_found_still}
+use Rattle.pm3_txn.proofs.WorksOwn.{own_start_still, space_found_still}
 
--- a page of the space stays one where one image is another
-pub own_pages : (h new : Holding) (page : ℕ) → IsChange h new page → (q : ℕ) → is_own_page new q ≡ is_own_page h q
-own_pages h new page change q = ap (λ (k : Holding). is_own_page k q) (sym change.is) ∙ own_page_still h page change.image change.now change.there q
+-- where an object of the space begins one begins still, where one image is another
+pub own_starts : (h new : Holding) (page : ℕ) → IsChange h new page → (a : ℕ) → is_own_start h a ≡ true → is_own_start new a ≡ true
+own_starts h new page change a is = subst (λ (k : Holding). is_own_start k a ≡ true) change.is (own_start_still h page change.image change.now change.there change.starts a is)
 
 pub change_found : (h new : Holding) (page : ℕ) → IsChange h new page → FoundSame h new
 change_found h new page change = record {
@@ -50,16 +50,16 @@ module _ (told : Told) (v : View) (number : ℕ) (h new : Holding) (a x : ℕ) (
       (has.1 ∙ ap (λ (o : Option ℕ). Some (unwrap_or o 0)) (sym has.1)) value (λ names. known_word told v h st x opens (word names)) is
 
   pub keeps_written : Keeps told v h v new
-  keeps_written = keeps_books told v h new (λ q own. own_pages h new (page_in BASE a) (written_change told.opening.catalog h new a place x is) q ∙ own) books_written
+  keeps_written = keeps_books told v h new (own_starts h new (page_in BASE a) (written_change told.opening.catalog h new a place x is)) books_written
       (change_found h new (page_in BASE a) (written_change told.opening.catalog h new a place x is))
 
 -- a root slot is on a page that is held alone
-same_space : (h new : Holding) (o : Option HeldImages) → option_map (λ (p : HeldImages). record h { pages = p }) o ≡ Some new → new.space ≡ h.space
+pub same_space : (h new : Holding) (o : Option HeldImages) → option_map (λ (p : HeldImages). record h { pages = p }) o ≡ Some new → new.space ≡ h.space
 same_space h new None is = absurd (is_some_none new is)
 same_space h new (Some p) is = ap (λ (k : Holding). k.space) (sym (one_value (Some (record h { pages = p })) (record h { pages = p }) new refl is))
 
 pub keeps_rooted : (told : Told) (v : View) (h new : Holding) (slot x : ℕ) → root_written h slot x ≡ Some new → Keeps told v h v new
 keeps_rooted told v h new slot x is =
     let same : new.space ≡ h.space = same_space h new (images_rooted h.pages slot x) is in
-    keeps_books told v h new (λ q own. ap (λ (s : Option HeldSpaceState). is_own_page (record { pages = new.pages; space = s }) q) same ∙ own)
+    keeps_books told v h new (λ b own. ap (λ (s : Option HeldSpaceState). is_own_start (record { pages = new.pages; space = s }) b) same ∙ own)
     (λ st opens. ap (λ (s : Option HeldSpaceState). book_of BASE (space_left s)) same) (change_found h new 2 (rooted_change h new slot x is))

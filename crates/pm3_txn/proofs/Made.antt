@@ -1,6 +1,7 @@
 -- A transaction that makes an object, step by step.
 use Rattle.std.proofs.Common.{◌≡◌, ◌⊎◌, ◌<◌, ◌≤◌, ◌+◌, ◌++◌, ◌||◌, ◌∙◌, inl, inr, ℕ, zero, suc, Bool, true, false, List, [], ◌∷◌, length, Option, Some, None, is_some, unwrap_or, slice_get, refl, sym, ap, subst, arith}
 use Rattle.std.proofs.lemmas.Bool.{false≢true}
+use Rattle.std.proofs.lemmas.List.Elements.{All-nil, All-replicate}
 use Rattle.std.specs.FinMap.{get, insert}
 use Rattle.std.specs.FinSet as set
 use Rattle.atomic_table.specs.Seated.{TableId}
@@ -25,20 +26,21 @@ use Rattle.pm3_txn.specs.declared.faults.AccessFault.TheVariants.{NotAReference,
 use Rattle.pm3_txn.specs.Heaps.{IsBelow}
 use Rattle.pm3_txn.specs.Knowing.{state_seen}
 use Rattle.pm3_txn.specs.Making.{Drew, IsMakeRefusal, IsSpaceRefusal, HasGrownSpace, HasMade, HasNewObject, HasNoRoom, HasNotMade, HasTakenSpace, IsUsableName, MayMake}
-use Rattle.pm3_txn.specs.Owners.{WorksOn, IsHolding, MayHoldSpace, KnowsHere}
+use Rattle.pm3_txn.specs.Owners.{WorksOn, HasNamesBelow, IsHolding, MayHoldSpace, KnowsHere, own_use}
 use Rattle.pm3_txn.specs.Placing.{IsPlaced, IsRefusedPlace}
 use Rattle.pm3_txn.specs.Spaces.{HasDrawnName, HasDrawnPage, HasFree, HasMadeRoom, HasNoFree, HasNone, HasOpenedPage, HasPlacedObject, IsNameRefusal, IsOutOfPages, IsPageShortage, IsShortOfMemory}
 use Rattle.pm3_txn.specs.States.{MutatorState, TxnState, told_in, view_in}
 use Rattle.pm3_txn.specs.Touching.{Advances, IsSameButHeld, nothing_more}
 use Rattle.pm3_txn.specs.Underway.{IsUnderway}
-use Rattle.pm3_txn.specs.Works.{left_book, is_own_page}
+use Rattle.pm3_txn.specs.Works.{left_book, is_own_page, is_own_start}
 use Rattle.pm3_txn.proofs.Advancing.{moment, advances_both, goes_still}
 use Rattle.pm3_txn.proofs.Changing.{IsChange}
 use Rattle.pm3_txn.proofs.Keeping.{FoundSame, Keeps, keeps_made, row_kept}
+use Rattle.pm3_txn.proofs.NamesBelow.{names_put}
 use Rattle.pm3_txn.proofs.OwnBooks.{with_own}
-use Rattle.pm3_txn.proofs.OwnerMakes.{holdings_make, none_before, own_book, own_page}
+use Rattle.pm3_txn.proofs.OwnerMakes.{holdings_make, laid, none_before, own_book, own_page, placed_starts, put as put_there}
 use Rattle.pm3_txn.proofs.Growing.{still_some}
-use Rattle.pm3_txn.proofs.KeepingWrites.{change_found, own_pages}
+use Rattle.pm3_txn.proofs.KeepingWrites.{change_found, own_starts}
 use Rattle.pm3_txn.proofs.WorksMake.{put_of}
 
 same_both : {R : Type 0} (old mid new : TxnState R) → IsSameButHeld old mid → IsSameButHeld mid new → IsSameButHeld old new
@@ -92,9 +94,18 @@ space_itself t is = record {
   goes_on = goes_still (told_in t) (view_in t) (view_in t) t.held refl;
 }
 
-pub drew_both : {R : Type 0} (old mid new : TxnState R) (a b c d : ℕ) → Drew old mid a b → Drew mid new c d → Drew old new (a + c) (b + d)
-drew_both old mid new a b c d first second =
-    (let one = first.0 in let two = second.0 in omega (arith, one, two), let one = first.1 in let two = second.1 in omega (arith, one, two))
+-- so many pages more
+pub drew_both : {R : Type 0} (old mid new : TxnState R) (names : List ℕ) (b d : ℕ) → Drew old mid names b → Drew mid new [] d → Drew old new names (b + d)
+drew_both old mid new names b d first second = record {
+  pages_drawn = let one = first.pages_drawn in let two = second.pages_drawn in omega (arith, one, two);
+  names_drawn = let one = first.names_drawn in let two = second.names_drawn in omega (arith, one, two);
+  names_are = second.names_are ∙ first.names_are;
+  noted = second.noted ∙ first.noted;
+}
+
+-- nothing
+pub drew_none : {R : Type 0} (t : TxnState R) → Drew t t [] 0
+drew_none t = record { pages_drawn = omega arith; names_drawn = omega arith; names_are = refl; noted = refl }
 
 none_free : (s : Option HeldSpaceState) → HasFree s → HasNone s → ⊥
 none_free None some none = some
@@ -107,7 +118,7 @@ module _ {R : Type 0} (old : TxnState R) (there : is_some old.held.space ≡ tru
 
   pub room_memory : (new : TxnState R) (fault : AccessFault) → fault ≡ Memory → new ≡ old → IsShortOfMemory old new fault
   room_memory new fault is same = subst (λ (t : TxnState R). IsShortOfMemory old t fault) (sym same)
-      (record { drawn = 0; memory = is; grown = space_itself old there; drew = ((omega arith, omega arith), omega arith) })
+      (record { drawn = 0; memory = is; grown = space_itself old there; drew = (drew_none old, omega arith) })
 
   -- no page was free
   module _ (mid : TxnState R) (bare : HasNoFree old mid) where
@@ -137,7 +148,7 @@ module _ {R : Type 0} (old : TxnState R) (there : is_some old.held.space ≡ tru
       room_drawn new is = record {
         drawn = 1;
         grown = space_both old a new drawn.grown is.grown;
-        drew = drew_both old a new 0 1 0 0 drawn.drew is.drew;
+        drew = drew_both old a new [] 1 0 drawn.drew is.drew;
         why = inr (refl, bare.none);
         room = is.room;
       }
@@ -152,7 +163,7 @@ module _ {R : Type 0} (old : TxnState R) (there : is_some old.held.space ≡ tru
 -- an object was placed
 module _ {R : Type 0} (old : TxnState R) (type tail size name : ℕ) where
   pub placed_first : (new : TxnState R) (a : ℕ) → is_some old.held.space ≡ true → HasNewObject old new type tail name a → HasPlacedObject old new type tail size name a
-  placed_first new a there is = record { ready = old; drawn = 0; grown = space_itself old there; drew = (omega arith, omega arith); why = inl refl; object = is }
+  placed_first new a there is = record { ready = old; drawn = 0; grown = space_itself old there; drew = drew_none old; why = inl refl; object = is }
 
   pub placed_then : (mid a new : TxnState R) (at : ℕ) → mid ≡ old → has_room_for (current_image old.held.space) size ≡ false → HasMadeRoom mid a → HasNewObject a new type tail name at
       → HasPlacedObject old new type tail size name at
@@ -173,12 +184,12 @@ there_is (map ∷ maps) (suc k) low = there_is maps k (omega (arith, low))
 made_change : (catalog : List Fields) (h new : Holding) (type tail name a : ℕ) → AreInPlace h → IsMade BASE catalog h type tail name (Some a) new → (page : ℕ) × IsChange h new page
 made_change catalog h new type tail name a places made =
     let put = put_of catalog h.pages h.space new type tail name a places made in
-    (put.page, record { image = put.image; now = placed_on put.image (size_by (slice_get catalog type) tail) (head_of type tail) name; there = put.there; is = put.is })
+    (put.page, record { image = put.image; now = placed_on put.image (size_by (slice_get catalog type) tail) (head_of type tail) name; there = put.there; is = put.is; starts = placed_starts put.image.page put.image.sheet (size_by (slice_get catalog type) tail) (head_of type tail) name })
 
--- so each page of the space is one of it
-more_pages : (catalog : List Fields) (h new : Holding) (type tail name a : ℕ) → AreInPlace h → IsMade BASE catalog h type tail name (Some a) new → (q : ℕ) → is_own_page h q ≡ true → is_own_page new q ≡ true
-more_pages catalog h new type tail name a places made q own =
-    let change = made_change catalog h new type tail name a places made in own_pages h new change.0 change.1 q ∙ own
+-- so where an object of the space begins one begins still
+more_starts : (catalog : List Fields) (h new : Holding) (type tail name a : ℕ) → AreInPlace h → IsMade BASE catalog h type tail name (Some a) new → (b : ℕ) → is_own_start h b ≡ true → is_own_start new b ≡ true
+more_starts catalog h new type tail name a places made =
+    let change = made_change catalog h new type tail name a places made in own_starts h new change.0 change.1
 
 -- and the same was found
 more_found : (catalog : List Fields) (h new : Holding) (type tail name a : ℕ) → AreInPlace h → IsMade BASE catalog h type tail name (Some a) new → FoundSame h new
@@ -187,7 +198,7 @@ more_found catalog h new type tail name a places made =
 
 -- in the space, under a usable name
 module _ {R : Type 0} (content : R → Option (List ℕ)) (heap : TableId × Told) (m : MutatorState R) (h new : Holding) (tag type tail name a : ℕ) (was : IsUnderway content (moment heap tag m h))
-    (may : MayMake heap.1.opening.catalog type tail) (usable : IsUsableName heap.1 m.pass.1 h name) (there : is_some h.space ≡ true)
+    (may : MayMake heap.1.opening.catalog type tail) (usable : IsUsableName heap.1 m.pass.1 h name) (noted : name < m.next_name) (there : is_some h.space ≡ true)
     (made : IsMade BASE heap.1.opening.catalog h type tail name (Some a) new) (step : IsMakeStep heap.1.opening.catalog BASE h type tail name a new)
     (form : (refers : ℕ → Bool) → refers 0 ≡ true → HaveForm heap.1.opening.catalog refers h → HaveForm heap.1.opening.catalog refers new) (below : IsBelow heap.1) where
   typed : (map : Fields) × (slice_get heap.1.opening.catalog type ≡ Some map)
@@ -207,14 +218,26 @@ module _ {R : Type 0} (content : R → Option (List ℕ)) (heap : TableId × Tol
   )
 
   keeps : Keeps heap.1 m.pass.1 h m.pass.1 new
-  keeps = keeps_made heap.1 m.pass.1 h new a name (more_pages heap.1.opening.catalog h new type tail name a was.holding.places made) books
+  keeps = keeps_made heap.1 m.pass.1 h new a name (more_starts heap.1.opening.catalog h new type tail name a was.holding.places made) books
       (more_found heap.1.opening.catalog h new type tail name a was.holding.places made)
+
+  -- it has a name below the next one
+  named_below : HasNamesBelow m.next_name new
+  named_below = names_put m.next_name h new (size_by (slice_get heap.1.opening.catalog type) tail) (head_of type tail) name a
+      (put_there heap.1 m.pass.1 m.space h new type tail name a typed.0 below was.mutator.lawful was.holding usable.drawn usable.from usable.unmade usable.unused typed.1 made step form)
+      was.holding.places make_it.1.places heap.1.opening.catalog (own_use heap.1 m.pass.1 h) was.holding.form
+      (laid heap.1 m.pass.1 m.space h new type tail name a typed.0 below was.mutator.lawful was.holding usable.drawn usable.from usable.unmade usable.unused typed.1 made step form)
+      two noted was.named
+    where
+      two : 2 ≤ size_by (slice_get heap.1.opening.catalog type) tail
+      two = let same : size_by (slice_get heap.1.opening.catalog type) tail ≡ size_by (Some typed.0) tail = ap (λ (o : Option Fields). size_by o tail) typed.1 in omega (arith, same)
 
   pub made_underway : IsUnderway content (moment heap tag m new)
   made_underway = record {
     mutator = was.mutator;
     known = row_kept heap.1 m.pass.1 m.pass.1 h new keeps m.refs m.wrote (λ q. refl) was.known;
     holding = make_it.1;
+    named = named_below;
   }
 
   pub has_new_object : HasNewObject (moment heap tag m h) (moment heap tag m new) type tail name a
@@ -243,7 +266,7 @@ module _ {R : Type 0} (old mid named made : TxnState R) (type tail name a : ℕ)
     drawn = placed.drawn;
     taken = taken;
     grown = space_both mid named placed.ready name_is.grown placed.grown;
-    drew = (let same : 0 + placed.drawn ≡ placed.drawn = omega arith in subst (Drew mid placed.ready 1) same (drew_both mid named placed.ready 1 0 0 placed.drawn name_is.drew placed.drew));
+    drew = (let same : 0 + placed.drawn ≡ placed.drawn = omega arith in subst (Drew mid placed.ready (name ∷ [])) same (drew_both mid named placed.ready (name ∷ []) 0 placed.drawn name_is.drew placed.drew));
     why = why placed.drawn placed.why;
     fresh = name_is.fresh;
     object = placed.object;
@@ -277,14 +300,24 @@ module _ {R : Type 0} (old mid new : TxnState R) (size : ℕ) (taken : HasTakenS
   no_name fault is = subst (IsMakeRefusal old new size) (sym is.full) (inl (
     refl,
     refl,
-    record { mid = mid; drawn = 0; taken = taken; grown = is.grown; drew = (is.drew, omega arith); goes_on = goes is.grown },
+    record { mid = mid; names = []; drawn = 0; taken = taken; grown = is.grown; counted = refl; drew = (is.drew, omega arith); usable = All-nil _; goes_on = goes is.grown },
     is.filled ∙ ap (λ l. 1 ∷ l) taken.drew.2,
   ))
 
   module _ (named : TxnState R) (name : ℕ) (name_is : HasDrawnName mid named name) where
-    not_made : (drawn : ℕ) → HasGrownSpace named new → Drew named new 0 drawn → drawn ≤ 1 → HasNotMade old new 1
+    not_made : (drawn : ℕ) → HasGrownSpace named new → Drew named new [] drawn → drawn ≤ 1 → HasNotMade old new 1
     not_made drawn grown drew low = (let all = space_both mid named new name_is.grown grown in
-        record { mid = mid; drawn = drawn; taken = taken; grown = all; drew = (let same : 0 + drawn ≡ drawn = omega arith in subst (Drew mid new 1) same (drew_both mid named new 1 0 0 drawn name_is.drew drew), low); goes_on = goes all })
+        record {
+          mid = mid;
+          names = name ∷ [];
+          drawn = drawn;
+          taken = taken;
+          grown = all;
+          counted = refl;
+          drew = (let same : 0 + drawn ≡ drawn = omega arith in subst (Drew mid new (name ∷ [])) same (drew_both mid named new (name ∷ []) 0 drawn name_is.drew drew), low);
+          usable = All-replicate (λ n. IsUsableName (told_in new) (view_in new) new.held n) 1 name (grown.names name name_is.usable);
+          goes_on = goes all;
+        })
 
     -- no page was left, or there was no memory
     pub no_room : (fault : AccessFault) → (IsOutOfPages named new size fault × HasNoRoom new size) ⊎ IsShortOfMemory named new fault → IsMakeRefusal old new size fault

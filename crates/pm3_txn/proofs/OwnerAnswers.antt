@@ -38,16 +38,16 @@ use Rattle.pm3_table.specs.Telling.{Lawful}
 use Rattle.pm3_txn.specs.Knowing.{is_in_use, state_seen}
 use Rattle.pm3_txn.specs.OwnerLaws.{KnownAreHere, HoldingsRead, HoldingsWrite, HoldingsReadRoot, HoldingsWriteRoot}
 use Rattle.pm3_txn.specs.Owners.{WorksOn, MayHoldSpace, IsOwnUnit, IsHolding, KnowsHere, KnowsWordHere, own_use, name_here, reads_here, writes_here, root_writes_here}
-use Rattle.pm3_txn.specs.Works.{Works, left_book, is_own_page}
+use Rattle.pm3_txn.specs.Works.{Works, left_book, is_own_start}
 use Rattle.pm3_txn.proofs.Answering.{read_refers}
 use Rattle.pm3_txn.proofs.Changing.{IsChange, written_change, rooted_change}
 use Rattle.pm3_txn.proofs.Seeing.{settled_now, use_form}
 use Rattle.pm3_txn.proofs.WorksChange.{works_read, works_write, works_read_root, works_write_root, write_own, rooted}
-use Rattle.pm3_txn.proofs.WorksOwn.{alone_still, found_still, space_found_still, own_page_still}
+use Rattle.pm3_txn.proofs.WorksOwn.{alone_still, found_still, space_found_still, own_start_still}
 
 pub known_are_here : KnownAreHere
 known_are_here told v number h a some holding known = record {
-  usable = ap (λ (x : Bool). x || (is_memory_reference BASE told.pages a && is_own_page h (page_in BASE a))) known.usable;
+  usable = ap (λ (x : Bool). x || (is_memory_reference BASE told.pages a && is_own_start h a)) known.usable;
   object = λ st opens. laid_still (persistent_book BASE (state_seen told v st)) (book_of BASE (space_left h.space)) a (known.object st opens);
 }
 
@@ -57,8 +57,13 @@ tight true y z up e = up refl
 tight false true z up e = refl
 tight false false z up e = absurd (false≢true e)
 
+use_up : (x y c d : Bool) → (c ≡ true → d ≡ true) → (x || (y && c)) ≡ true → (x || (y && d)) ≡ true
+use_up true y c d up is = refl
+use_up false true c d up is = up is
+use_up false false c d up is = is
+
 pub own_form : (told : Told) (v : View) (h : Holding) (a : ℕ) → own_use told v h a ≡ true → is_memory_reference BASE told.pages a ≡ true
-own_form told v h a = tight (is_in_use told v.seen a) (is_memory_reference BASE told.pages a) (is_own_page h (page_in BASE a)) (use_form told v.seen a)
+own_form told v h a = tight (is_in_use told v.seen a) (is_memory_reference BASE told.pages a) (is_own_start h a) (use_form told v.seen a)
 
 pub nil_use : (told : Told) (v : View) (h : Holding) → own_use told v h 0 ≡ true
 unfolding is_memory_reference
@@ -106,8 +111,8 @@ module _ (told : Told) (v : View) (number : ℕ) (h : Holding) (holding : IsHold
     unfound : (q : ℕ) → get new.pages.found q ≡ get h.pages.found q
     unfound q = ap (λ (k : Holding). get k.pages.found q) (sym change.is) ∙ found_still h page change.image change.now change.there q
 
-    own_pages : (q : ℕ) → is_own_page new q ≡ is_own_page h q
-    own_pages q = ap (λ (k : Holding). is_own_page k q) (sym change.is) ∙ own_page_still h page change.image change.now change.there q
+    own_starts : (b : ℕ) → is_own_start h b ≡ true → is_own_start new b ≡ true
+    own_starts b is = subst (λ (k : Holding). is_own_start k b ≡ true) change.is (own_start_still h page change.image change.now change.there change.starts b is)
 
     space_by : (s : Option HeldSpaceState) → space_now s page ≡ Some change.image → MayHoldSpace told v number s → MayHoldSpace told v number (option_map (λ t. space_with t page change.now) s)
     space_by None there held = tt
@@ -174,7 +179,7 @@ module _ (told : Told) (v : View) (number : ℕ) (h : Holding) (holding : IsHold
       found = λ q image is. holding.found q image (sym (unfound q) ∙ is);
       space = space;
       form = λ q image on. form_for_more told.opening.catalog (own_use told v h) (own_use told v new)
-          (λ b is. ap (λ (t : Bool). is_in_use told v.seen b || (is_memory_reference BASE told.pages b && t)) (own_pages (page_in BASE b)) ∙ is) image.page image.sheet (form q image on);
+          (λ b is. use_up (is_in_use told v.seen b) (is_memory_reference BASE told.pages b) (is_own_start h b) (is_own_start new b) (own_starts b) is) image.page image.sheet (form q image on);
       names = λ st opens b n has. names_by st opens b n (own st opens b n has);
       works = works;
     }

@@ -9,7 +9,7 @@ use Rattle.std.specs.FinMap.{get, insert}
 use Rattle.std.specs.FinSet as set
 use Rattle.std.specs.FinSet.{contains-remove}
 use Rattle.pm3_core.specs.declared.naming.TheConstants.{BASE}
-use Rattle.pm3_types.specs.Layout.{PageImage, blank_sheet, page_in}
+use Rattle.pm3_types.specs.Layout.{PageImage, blank_sheet, page_in, word_in}
 use Rattle.pm3_types.specs.PageForm.{is_memory_reference}
 use Rattle.pm3_types.specs.Shown.{Book}
 use Rattle.pm3_page.specs.PageSheets.{sheets_of}
@@ -41,7 +41,8 @@ use Rattle.pm3_txn.specs.Loads.{IsPersistent}
 use Rattle.pm3_txn.specs.Owners.{WorksOn, HoldsSpace, MayHoldSpace, IsHolding, own_use}
 use Rattle.pm3_txn.specs.Values as values
 use Rattle.pm3_txn.specs.Values.{IsPageOf}
-use Rattle.pm3_txn.specs.Works.{Works, is_own_page}
+use Rattle.pm3_txn.specs.OwnStarts.{starts_on}
+use Rattle.pm3_txn.specs.Works.{Works, is_own_start}
 use Rattle.pm3_txn.proofs.OwnBooks.{found_booked}
 use Rattle.pm3_txn.proofs.OwnerKnows.{new_names_are_new, others_are_bare}
 use Rattle.pm3_txn.proofs.OwnerTakes.{persistent_steady}
@@ -128,7 +129,7 @@ module _ (told : Told) (v w : View) (alike : IsAlike v w) where
       found = found_alike;
       space = may_alike number h.space spans holding.space;
       form = λ q image on. form_for_more told.opening.catalog (own_use told v h) (own_use told w h)
-          (λ a is. ap (λ (l : List Done). is_in_use told l a || (is_memory_reference BASE told.pages a && is_own_page h (page_in BASE a))) alike.seen ∙ is) image.page image.sheet (holding.form q image on);
+          (λ a is. ap (λ (l : List Done). is_in_use told l a || (is_memory_reference BASE told.pages a && is_own_start h a)) alike.seen ∙ is) image.page image.sheet (holding.form q image on);
       names = names_alike;
       works = λ st opens. (let was = holding.works st opens in (was.0, works_alike h st opens was.0 was.1));
     }
@@ -300,10 +301,10 @@ module _ (told : Told) (v w : View) (number : ℕ) (p : HeldImages) (s : HeldSpa
   up false true c d more is = more is
   up false false c d more is = is
 
-  more_own : (q : ℕ) → is_some (get s.images.left q) ≡ true → is_some (get (insert s.images.left image.page image) q) ≡ true
-  more_own q is = elim (cases_eq q image.page) [
-    | inl e ↦ here q e
-    | inr ne ↦ ap is_some (other q ne) ∙ is
+  more_own : (a : ℕ) → is_own_start h a ≡ true → is_own_start new a ≡ true
+  more_own a is = elim (cases_eq (page_in BASE a) image.page) [
+    | inl e ↦ absurd (false≢true (sym (ap (λ (o : Option PageImage). starts_on o (word_in BASE a)) (ap (get s.images.left) e ∙ off)) ∙ is))
+    | inr ne ↦ ap (λ (o : Option PageImage). starts_on o (word_in BASE a)) (other (page_in BASE a) ne) ∙ is
   ]
 
   pub grows : HasGrown told v h w number new
@@ -318,8 +319,8 @@ module _ (told : Told) (v w : View) (number : ℕ) (p : HeldImages) (s : HeldSpa
       found = found_alike told v w alike number h holding;
       space = (holding.space.0, new_space);
       form = λ q x on. form_for_more told.opening.catalog (own_use told v h) (own_use told w new)
-          (λ a is. up (is_in_use told w.seen a) (is_memory_reference BASE told.pages a) (is_own_page h (page_in BASE a)) (is_own_page new (page_in BASE a)) (more_own (page_in BASE a))
-          (ap (λ (l : List Done). is_in_use told l a || (is_memory_reference BASE told.pages a && is_own_page h (page_in BASE a))) alike.seen ∙ is)) x.page x.sheet
+          (λ a is. up (is_in_use told w.seen a) (is_memory_reference BASE told.pages a) (is_own_start h a) (is_own_start new a) (more_own a)
+          (ap (λ (l : List Done). is_in_use told l a || (is_memory_reference BASE told.pages a && is_own_start h a)) alike.seen ∙ is)) x.page x.sheet
           (sound_grown told.opening.catalog BASE (own_use told v h) mid image blank high holding.form q x on);
       names = λ st opens a n has. names_alike told v w alike number h holding st opens a n (ap (λ (k : Book). get k a) (sym own) ∙ has);
       works = λ st opens. (let was = holding.works st opens in (was.0, works_grown st opens was.0 was.1));

@@ -8,7 +8,7 @@ use Rattle.std.specs.FinMap.{get}
 use Rattle.std.specs.FinSet as set
 use Rattle.std.specs.FinSet.{contains-insert}
 use Rattle.pm3_core.specs.declared.naming.TheConstants.{BASE}
-use Rattle.pm3_types.specs.Layout.{PageImage, page_in}
+use Rattle.pm3_types.specs.Layout.{PageImage}
 use Rattle.pm3_types.specs.PageForm.{is_memory_reference}
 use Rattle.pm3_page.specs.PageSheets.{sheets_of}
 use Rattle.pm3_access.specs.FreeList.{Numbers}
@@ -25,7 +25,7 @@ use Rattle.pm3_txn.specs.DrawnLaws.{HasGrown, HoldingsFree, HoldingsRoom, IsAlik
 use Rattle.pm3_txn.specs.Knowing.{is_in_use, state_seen}
 use Rattle.pm3_txn.specs.Owners.{WorksOn, HoldsSpace, IsHolding, own_use}
 use Rattle.pm3_txn.specs.Values as values
-use Rattle.pm3_txn.specs.Works.{is_own_page}
+use Rattle.pm3_txn.specs.Works.{is_own_start}
 use Rattle.pm3_txn.proofs.OwnerDraws.{drawn_pages_are_bare, holds_alike, only_alike, only_new, works_alike, persistent_alike, found_alike, units_alike, names_alike}
 use Rattle.pm3_txn.proofs.WorksDraw.{works_free}
 
@@ -76,7 +76,7 @@ module _ (told : Told) (v w : View) (number : ℕ) (p : HeldImages) (s : HeldSpa
       found = found_alike told v w alike number h holding;
       space = (holding.space.0, new_space);
       form = λ q x on. form_for_more told.opening.catalog (own_use told v h) (own_use told w new)
-          (λ a is. ap (λ (l : List Done). is_in_use told l a || (is_memory_reference BASE told.pages a && is_own_page h (page_in BASE a))) alike.seen ∙ is) x.page x.sheet
+          (λ a is. ap (λ (l : List Done). is_in_use told l a || (is_memory_reference BASE told.pages a && is_own_start h a)) alike.seen ∙ is) x.page x.sheet
           (holding.form q x on);
       names = λ st opens a n has. names_alike told v w alike number h holding st opens a n has;
       works = λ st opens. (let was = holding.works st opens in (was.0, works_freed st opens was.0 was.1));
@@ -111,7 +111,7 @@ free_by told v w number p None page room holding new high low alike more = (
     found = found_alike told v w alike number (record { pages = p; space = None }) holding;
     space = tt;
     form = λ q x on. form_for_more told.opening.catalog (own_use told v (record { pages = p; space = None })) (own_use told w (record { pages = p; space = None }))
-        (λ a is. ap (λ (l : List Done). is_in_use told l a || (is_memory_reference BASE told.pages a && is_own_page (record { pages = p; space = None }) (page_in BASE a))) alike.seen ∙ is) x.page x.sheet
+        (λ a is. ap (λ (l : List Done). is_in_use told l a || (is_memory_reference BASE told.pages a && is_own_start (record { pages = p; space = None }) a)) alike.seen ∙ is) x.page x.sheet
         (holding.form q x on);
     names = names_alike told v w alike number (record { pages = p; space = None }) holding;
     works = λ st opens. (let was = holding.works st opens in (was.0, works_alike told v w alike (record { pages = p; space = None }) st opens was.0 was.1));

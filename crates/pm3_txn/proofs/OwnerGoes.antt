@@ -5,9 +5,9 @@ use Rattle.std.specs.Option.{option_or}
 use Rattle.std.specs.Ordering.{nat_cmp}
 use Rattle.std.specs.FinMap as map
 use Rattle.std.specs.FinSet as set
-use Rattle.std.specs.FinMap.{get, get-empty, empty, contains_key}
+use Rattle.std.specs.FinMap.{get, get-empty, empty}
 use Rattle.pm3_core.specs.declared.naming.TheConstants.{BASE}
-use Rattle.pm3_types.specs.Layout.{PageImage, page_in}
+use Rattle.pm3_types.specs.Layout.{PageImage}
 use Rattle.pm3_types.specs.PageForm.{is_memory_reference}
 use Rattle.pm3_types.specs.Shown.{Images}
 use Rattle.pm3_access.specs.Access.{HaveForm}
@@ -39,7 +39,8 @@ use Rattle.pm3_txn.specs.OwnerLaws.{GoesFurther, HoldingsBegin, HoldingsGoOn}
 use Rattle.pm3_txn.specs.Owners.{WorksOn, HoldsSpace, MayHoldSpace, IsHolding, own_use}
 use Rattle.pm3_txn.specs.Values as values
 use Rattle.pm3_txn.specs.Values.{IsPageOf}
-use Rattle.pm3_txn.specs.Works.{Works, IsOwnName, is_own_page}
+use Rattle.pm3_txn.specs.OwnStarts.{starts_in}
+use Rattle.pm3_txn.specs.Works.{Works, IsOwnName, is_own_start}
 use Rattle.pm3_txn.specs.WorkLaws.{NoneOf}
 use Rattle.pm3_txn.proofs.OwnBooks.{found_booked}
 use Rattle.pm3_txn.proofs.OwnerKnows.{unwritten_by, new_names_are_new, unnamed_have_none}
@@ -161,7 +162,7 @@ module _ (told : Told) (v w : View) (number : ℕ) (h : Holding) (between : List
         was.1,
         was.2,
         form_for_more told.opening.catalog (values.space_use told v.seen s.images.found) (values.space_use told w.seen s.images.found)
-            (λ a. use_rises (is_in_use told v.seen a) (is_memory_reference BASE told.pages a && contains_key s.images.found (page_in BASE a)) (is_in_use told w.seen a)
+            (λ a. use_rises (is_in_use told v.seen a) (is_memory_reference BASE told.pages a && starts_in s.images.found a) (is_in_use told w.seen a)
             (λ is. ap (λ (l : List Done). is_in_use told l a) far.seen ∙ use_later told v.seen between a is))
             image.page image.sheet was.3,
       ));
@@ -186,7 +187,7 @@ module _ (told : Told) (v w : View) (number : ℕ) (h : Holding) (between : List
 
   pub form_later : HaveForm told.opening.catalog (own_use told w h) h
   form_later q image on = form_for_more told.opening.catalog (own_use told v h) (own_use told w h)
-      (λ a. use_rises (is_in_use told v.seen a) (is_memory_reference BASE told.pages a && is_own_page h (page_in BASE a)) (is_in_use told w.seen a)
+      (λ a. use_rises (is_in_use told v.seen a) (is_memory_reference BASE told.pages a && is_own_start h a) (is_in_use told w.seen a)
       (λ is. ap (λ (l : List Done). is_in_use told l a) far.seen ∙ use_later told v.seen between a is))
       image.page image.sheet (holding.form q image on)
 

@@ -1,5 +1,5 @@
 -- A transaction that makes an object in its space, and the space when what was done there is undone.
-use Rattle.std.proofs.Common.{◌≡◌, ◌<◌, ◌≤◌, ◌++◌, ◌==◌, ◌||◌, ◌&&◌, ◌∙◌, ◌⊎◌, inl, inr, ℕ, Bool, true, false, nat_lt, List, [], ◌∷◌, Option, Some, None, is_some, refl, sym, ap, subst, arith}
+use Rattle.std.proofs.Common.{◌≡◌, ◌<◌, ◌≤◌, ◌++◌, ◌==◌, ◌||◌, ◌&&◌, ◌∙◌, ◌⊎◌, inl, inr, ℕ, zero, suc, Bool, true, false, nat_lt, List, [], ◌∷◌, length, Option, Some, None, is_some, get_or-set_same, get_or-set_other, slice_index_or, slice_set, refl, sym, ap, subst, arith}
 use Rattle.std.proofs.lemmas.Bool.{cases_eq, false≢true, and_from, lt-ltb, le-leb}
 use Rattle.std.specs.Prelude.{slice_get, nat_le}
 use Rattle.std.specs.Option.{option_or}
@@ -11,7 +11,7 @@ use Rattle.std.specs.FinSet as set
 use Rattle.std.specs.FinSet.{contains-union, contains-from_list_nat}
 use Rattle.pm3_core.specs.declared.naming.TheConstants.{BASE}
 use Rattle.pm3_types.specs.Fields.{Fields}
-use Rattle.pm3_types.specs.Layout.{PageImage, IsLaid, blank_sheet, address, is_address, page_in, word_in, size_by, head_of, end_of, placed_on}
+use Rattle.pm3_types.specs.Layout.{PageImage, Sheet, IsLaid, blank_sheet, address, is_address, is_start, page_in, word_in, size_by, head_of, end_of, placed, placed_on}
 use Rattle.pm3_types.specs.PageForm.{HasObjects, is_memory_reference}
 use Rattle.pm3_types.specs.Shown.{Book}
 use Rattle.pm3_types.proofs.Addressing.{page_in-address, word_in-address, is_address-address}
@@ -41,7 +41,7 @@ use Rattle.pm3_txn.specs.Knowing.{is_in_use, state_seen}
 use Rattle.pm3_txn.specs.Owners.{WorksOn, MayHoldSpace, IsHolding, KnowsHere, own_use}
 use Rattle.pm3_txn.specs.Slots.{pages_of}
 use Rattle.pm3_txn.specs.Values.{IsSpaceOf}
-use Rattle.pm3_txn.specs.Works.{Works, left_book, is_own_page}
+use Rattle.pm3_txn.specs.Works.{Works, left_book, is_own_page, is_own_start}
 use Rattle.pm3_txn.proofs.Changing.{IsChange}
 use Rattle.pm3_txn.proofs.OwnBooks.{with_own}
 use Rattle.pm3_txn.proofs.OwnerAnswers.{nil_use, changed_holding}
@@ -49,7 +49,7 @@ use Rattle.pm3_txn.proofs.OwnerKnows.{new_names_are_new}
 use Rattle.pm3_txn.proofs.OwnerTakes.{pages_in_is}
 use Rattle.pm3_txn.proofs.Seeing.{settled_now}
 use Rattle.pm3_txn.proofs.WorksMake.{IsPut, put_of, works_make, made_own, made_none}
-use Rattle.pm3_txn.proofs.WorksOwn.{own_page_still}
+use Rattle.pm3_txn.proofs.WorksOwn.{own_page_still, own_start_here}
 
 or_first : (a b : Bool) → a ≡ true → (a || b) ≡ true
 or_first a b is = ap (λ x. x || b) is
@@ -80,6 +80,22 @@ reference_to pages a page word at high low begin fits =
     word_is : word_in BASE a ≡ word
     word_is = ap (word_in BASE) at ∙ word_in-address BASE page word fits
 
+-- where an object is placed those before it begin still
+pub placed_starts : (page : ℕ) (sheet : Sheet) (size head name s : ℕ) → is_start sheet s ≡ true → is_start (placed page sheet size head name) s ≡ true
+placed_starts page sheet size head name s is = elim (cases_eq s (end_of sheet)) [
+  | inl e ↦ set_true sheet.starts s (end_of sheet) e is
+  | inr ne ↦ get_or-set_other sheet.starts (end_of sheet) s true false ne ∙ is
+]
+  where
+    set_true : (starts : List Bool) (s k : ℕ) → s ≡ k → slice_index_or starts s false ≡ true → slice_index_or (slice_set starts k true) s false ≡ true
+    set_true starts s k e begins = ap (λ (j : ℕ). slice_index_or (slice_set starts k true) j false) e
+        ∙ get_or-set_same starts k true false (in_list starts k (ap (λ (j : ℕ). slice_index_or starts j false) (sym e) ∙ begins))
+      where
+        in_list : (starts : List Bool) (k : ℕ) → slice_index_or starts k false ≡ true → k < length starts
+        in_list [] k begins_ = absurd (false≢true begins_)
+        in_list (b ∷ bs) zero begins_ = omega arith
+        in_list (b ∷ bs) (suc j) begins_ = (let rest = in_list bs j begins_ in omega (arith, rest))
+
 own_bounds : (told : Told) (v : View) (number : ℕ) (s : Option HeldSpaceState) → MayHoldSpace told v number s → (q : ℕ) → is_some (space_now s q) ≡ true → (3 ≤ q) × (q < told.pages)
 own_bounds told v number None held q is = absurd (false≢true is)
 own_bounds told v number (Some s) held q is = held.1.within q (held.1.spans q ∙ or_first (is_some (get s.images.left q)) (set.contains s.free q) is)
@@ -88,14 +104,14 @@ module _ (told : Told) (v : View) (number : ℕ) (h new : Holding) (ty tail n a 
     (drawn : is_in n v.names ≡ true) (from : told.next_name ≤ n) (unmade : some_has makes v.seen n ≡ false) (unused : HasNoName told h n) (typed : slice_get told.opening.catalog ty ≡ Some map)
     (made : IsMade BASE told.opening.catalog h ty tail n (Some a) new) (step : IsMakeStep told.opening.catalog BASE h ty tail n a new)
     (form : (refers : ℕ → Bool) → refers 0 ≡ true → HaveForm told.opening.catalog refers h → HaveForm told.opening.catalog refers new) where
-  put : IsPut h new (size_by (slice_get told.opening.catalog ty) tail) (head_of ty tail) n a
+  pub put : IsPut h new (size_by (slice_get told.opening.catalog ty) tail) (head_of ty tail) n a
   put = put_of told.opening.catalog h.pages h.space new ty tail n a holding.places made
 
   abbrev now : PageImage
   now = placed_on put.image (size_by (slice_get told.opening.catalog ty) tail) (head_of ty tail) n
 
   change : IsChange h new put.page
-  change = record { image = put.image; now = now; there = put.there; is = put.is }
+  change = record { image = put.image; now = now; there = put.there; is = put.is; starts = placed_starts put.image.page put.image.sheet (size_by (slice_get told.opening.catalog ty) tail) (head_of ty tail) n }
 
   new_name : (st : State) → Opens BASE told.pages told.opening st → get (state_seen told v st).graph.records n ≡ None
   new_name st opens = new_names_are_new told v n st below lawful from unmade opens
@@ -137,7 +153,7 @@ module _ (told : Told) (v : View) (number : ℕ) (h new : Holding) (ty tail n a 
   home : put.image.page ≡ put.page
   home = holding.places.home put.page put.image put.there
 
-  laid : IsLaid told.opening.catalog put.image.sheet
+  pub laid : IsLaid told.opening.catalog put.image.sheet
   laid = of ((holding.form put.page put.image put.there).objects (λ e. omega (arith, e, home, bounds.0)))
     where
       of : (put.image.sheet ≡ blank_sheet) ⊎ HasObjects told.opening.catalog (own_use told v h) put.image.page put.image.sheet → IsLaid told.opening.catalog put.image.sheet
@@ -154,11 +170,18 @@ module _ (told : Told) (v : View) (number : ℕ) (h new : Holding) (ty tail n a 
   own_page = ap (is_own_page new) (ap (page_in BASE) at ∙ page_in-address BASE put.page (end_of put.image.sheet) low)
       ∙ subst (λ (x : Holding). is_own_page x put.page ≡ true) put.is (own_page_still h put.page put.image now put.there put.page ∙ on_space)
 
+  -- it begins there
+  own_start : is_own_start new a ≡ true
+  own_start = subst (λ (x : Holding). is_own_start x a ≡ true) put.is (own_start_here h put.page put.image now put.there put.off a
+      (ap (page_in BASE) at ∙ page_in-address BASE put.page (end_of put.image.sheet) low)
+      (ap (is_start now.sheet) (ap (word_in BASE) at ∙ word_in-address BASE put.page (end_of put.image.sheet) low)
+      ∙ get_or-set_same put.image.sheet.starts (end_of put.image.sheet) true false (let long = laid.starts in omega (arith, low, long))))
+
   known : KnowsHere told v new a
   known = record {
-    usable = or_second (is_in_use told v.seen a) (is_memory_reference BASE told.pages a && is_own_page new (page_in BASE a))
-        (and_from (is_memory_reference BASE told.pages a) (is_own_page new (page_in BASE a))
-        (reference_to told.pages a put.page (end_of put.image.sheet) at bounds.0 bounds.1 laid.end.0 low) own_page);
+    usable = or_second (is_in_use told v.seen a) (is_memory_reference BASE told.pages a && is_own_start new a)
+        (and_from (is_memory_reference BASE told.pages a) (is_own_start new a)
+        (reference_to told.pages a put.page (end_of put.image.sheet) at bounds.0 bounds.1 laid.end.0 low) own_start);
     object = λ st opens. ap is_some (with_own (state_seen told v st) (space_left new.space) a n
         (ap (λ (k : Book). get k a) (own_book st opens) ∙ get_here (book_of BASE (space_left h.space)) a a n refl));
   }

@@ -3,13 +3,13 @@ use Rattle.std.proofs.Common.{◌≡◌, ◌≢◌, ◌<◌, ◌≤◌, ◌++◌
 use Rattle.std.proofs.lemmas.Bool.{cases_eq, false≢true, eq-eqb, ne_eqb, lt-ltb}
 use Rattle.std.specs.Option.{option_or}
 use Rattle.std.specs.FinMap as map
-use Rattle.std.specs.FinMap.{get, contains_key, contains_key-keys}
+use Rattle.std.specs.FinMap.{get, contains_key-keys}
 use Rattle.std.specs.Cmp.{unsigned_tied}
 use Rattle.std.specs.List.{list_any}
 use Rattle.std.specs.Ordering.{nat_cmp, eq_by_cmp}
 use Rattle.std.specs.FinSet as set
 use Rattle.pm3_core.specs.declared.naming.TheConstants.{BASE}
-use Rattle.pm3_types.specs.Layout.{PageImage, page_in}
+use Rattle.pm3_types.specs.Layout.{PageImage}
 use Rattle.pm3_types.specs.PageForm.{HasForm, is_memory_reference}
 use Rattle.pm3_graph.specs.Frame.{FrameOfRuns}
 use Rattle.pm3_page.specs.PageMap.{IsAtHome}
@@ -36,7 +36,8 @@ use Rattle.pm3_txn.specs.Owners.{WorksOn, IsOwnUnit, IsHolding, own_use}
 use Rattle.pm3_txn.specs.Slots.{pages_of}
 use Rattle.pm3_txn.specs.Underway.{IsUnder}
 use Rattle.pm3_txn.specs.Values.{IsPageOf, IsSpaceOf, space_use}
-use Rattle.pm3_txn.specs.Works.{is_own_page}
+use Rattle.pm3_txn.specs.OwnStarts.{starts_in}
+use Rattle.pm3_txn.specs.Works.{is_own_start}
 use Rattle.pm3_txn.proofs.OwnerGoes.{works_later, space_then, units_later, persistent_then, found_later, form_later, names_later}
 use Rattle.pm3_txn.proofs.OwnerKnows.{spaces_are_last}
 use Rattle.pm3_txn.proofs.Seeing.{settled_now, home_later, persistent_later, use_form}
@@ -86,7 +87,7 @@ module _ (frame : FrameOfRuns) (told : Told) (v w : View) (number : ℕ) (h : Ho
     space = space_then told v w number h between below far holding h.space holding.space;
     form = sound_admitted told.opening.catalog BASE (own_use told w h) h image
         (form_for_more told.opening.catalog (is_in_use told w.seen) (own_use told w h)
-        (λ a is. or_first (is_in_use told w.seen a) (is_memory_reference BASE told.pages a && is_own_page h (page_in BASE a)) is) image.page image.sheet
+        (λ a is. or_first (is_in_use told w.seen a) (is_memory_reference BASE told.pages a && is_own_start h a) is) image.page image.sheet
         (subst (λ (n : ℕ). HasForm told.opening.catalog (is_in_use told w.seen) n image.sheet) (sym of.home) of.form))
         (form_later told v w number h between below far holding);
     names = names_later told v w number h between below far holding;
@@ -184,7 +185,7 @@ module _ (frame : FrameOfRuns) (told : Told) (v w : View) (number : ℕ) (p : He
           ∙ persistent_steady told w q (persistent_then told v w number h between below far holding q (ap is_some on))))
 
   tight : (a : ℕ) → space_use told w.seen space.images a ≡ true → is_memory_reference BASE told.pages a ≡ true
-  tight a is = of_both (is_in_use told w.seen a) (is_memory_reference BASE told.pages a) (contains_key space.images (page_in BASE a)) (use_form told w.seen a) is
+  tight a is = of_both (is_in_use told w.seen a) (is_memory_reference BASE told.pages a) (starts_in space.images a) (use_form told w.seen a) is
     where
       of_both : (x y z : Bool) → (x ≡ true → y ≡ true) → (x || (y && z)) ≡ true → y ≡ true
       of_both true y z up e = up refl
@@ -192,7 +193,7 @@ module _ (frame : FrameOfRuns) (told : Told) (v w : View) (number : ℕ) (p : He
       of_both false false z up e = absurd (false≢true e)
 
   wide : (a : ℕ) → own_use told w h a ≡ true → own_use told w new a ≡ true
-  wide a is = of_both (is_in_use told w.seen a) (is_memory_reference BASE told.pages a) (is_own_page new (page_in BASE a)) is
+  wide a is = of_both (is_in_use told w.seen a) (is_memory_reference BASE told.pages a) (is_own_start new a) is
     where
       of_both : (x y z : Bool) → (x || (y && false)) ≡ true → (x || (y && z)) ≡ true
       of_both true y z e = refl

@@ -1,5 +1,5 @@
 -- The book after a pass has what is not dead at its new address.
-use Rattle.std.proofs.Common.{◌≡◌, ◌<◌, ◌+◌, ◌∙◌, ◌⊎◌, inl, inr, ℕ, zero, suc, Bool, true, false, List, [], ◌∷◌, take, drop, length, Option, Some, None, is_some, refl, sym, ap, subst, arith}
+use Rattle.std.proofs.Common.{◌≡◌, ◌+◌, ◌∙◌, ◌⊎◌, inl, inr, ℕ, zero, suc, true, List, [], ◌∷◌, take, drop, Option, Some, None, is_some, refl, sym, ap, arith}
 use Rattle.std.proofs.lemmas.Bool.{and_from, and_parts}
 use Rattle.std.specs.Prelude.{slice_index}
 use Rattle.std.specs.List.{Contains}
@@ -23,13 +23,13 @@ use Rattle.pm3_history.specs.Laid.{laid}
 use Rattle.pm3_history.specs.Lawful.{IsFree}
 use Rattle.pm3_history.specs.Named.{IsNamedOn, book_of, next_book, off_pages, promoted}
 use Rattle.pm3_history.specs.State.{State}
-use Rattle.pm3_history.proofs.Laying.{some_of, some_none, there_none, none_if, one_value, get-laid, laid_above, laid_below, laid_cases, laid_none, without_keeps, without_cases, off_keeps, off_cases}
+use Rattle.pm3_history.proofs.Laying.{some_none, there_none, none_if, one_value, get-laid, laid_above, laid_below, laid_cases, laid_none, without_keeps, without_cases, off_keeps, off_cases}
 use Rattle.pm3_history.proofs.NamedOn.{book_of_named, book_of_has}
 use Rattle.pm3_txn.specs.PassCommits.{Marks, PassState, HasPassed, all_before, all_after, before_pass, pass_of}
 use Rattle.pm3_txn.specs.TransactionLaws.{IsSettled}
 use Rattle.pm3_txn.specs.Works.{Works}
 use Rattle.pm3_txn.proofs.OwnBooks.{own_on}
-use Rattle.pm3_txn.proofs.PassBook.{whole, whole_cases, own_whole, off_own, old_whole, changed_home, own_unchanged, before_fits}
+use Rattle.pm3_txn.proofs.PassBook.{whole_cases, own_whole, old_whole, changed_home, own_unchanged, before_fits}
 
 -- what is taken of a list, or dropped, is in it
 in_cons : (x y : ℕ) (l : List ℕ) → Contains l y → Contains (x ∷ l) y
@@ -56,6 +56,18 @@ in_drop (suc n) y (x ∷ l) is = in_cons x y l (in_drop n y l is)
 or_none : (o : Option Sheet) → option_or o None ≡ o
 or_none None = refl
 or_none (Some x) = refl
+
+-- images laid over others of which none has a page of theirs
+pub joined_laid : (lower upper : Images) → ((q : ℕ) → is_some (get lower q) ≡ true → get upper q ≡ None) → AreJoined lower upper (laid lower upper)
+joined_laid lower upper off = record { has = λ q. here q (get lower q) refl; apart = λ q. apart q (get lower q) refl }
+  where
+    here : (q : ℕ) (o : Option Sheet) → get lower q ≡ o → get (laid lower upper) q ≡ option_or (get lower q) (get upper q)
+    here q None none = get-laid lower upper q ∙ ap (option_or (get upper q)) none ∙ or_none (get upper q) ∙ sym (ap (λ (o : Option Sheet). option_or o (get upper q)) none)
+    here q (Some sheet) on = laid_below lower upper q (off q (ap is_some on)) ∙ on ∙ sym (ap (λ (o : Option Sheet). option_or o (get upper q)) on)
+
+    apart : (q : ℕ) (o : Option Sheet) → get lower q ≡ o → (get lower q ≡ None) ⊎ (get upper q ≡ None)
+    apart q None none = inl none
+    apart q (Some sheet) on = inr (off q (ap is_some on))
 
 -- an object of images stands on one of them
 pub record StandsOn (images : Images) (a : ℕ) : Type 0 where
@@ -156,22 +168,7 @@ module _ (others : OthersAreQuiet) (catalog : List Fields) (pages : ℕ) (st : S
   own_before q sheet on = laid_below (space_left h.space) p.changed q (own_unchanged catalog pages st settled h ops works m p has q (ap is_some on)) ∙ on
 
   pub joined : AreJoined (space_left h.space) p.changed (all_before h p)
-  joined = record { has = here; apart = apart }
-    where
-      here : (q : ℕ) → get (all_before h p) q ≡ option_or (get (space_left h.space) q) (get p.changed q)
-      here q = of (get (space_left h.space) q) refl
-        where
-          of : (o : Option Sheet) → get (space_left h.space) q ≡ o → get (all_before h p) q ≡ option_or (get (space_left h.space) q) (get p.changed q)
-          of None none = get-laid (space_left h.space) p.changed q ∙ ap (option_or (get p.changed q)) none ∙ or_none (get p.changed q)
-              ∙ sym (ap (λ (o : Option Sheet). option_or o (get p.changed q)) none)
-          of (Some sheet) on = own_before q sheet on ∙ sym (ap (λ (o : Option Sheet). option_or o (get p.changed q)) on)
-
-      apart : (q : ℕ) → (get (space_left h.space) q ≡ None) ⊎ (get p.changed q ≡ None)
-      apart q = of (get p.changed q) refl
-        where
-          of : (o : Option Sheet) → get p.changed q ≡ o → (get (space_left h.space) q ≡ None) ⊎ (get p.changed q ≡ None)
-          of None none = inr none
-          of (Some sheet) on = inl (changed_home catalog pages st settled h ops works m p has q sheet on).1
+  joined = joined_laid (space_left h.space) p.changed (own_unchanged catalog pages st settled h ops works m p has)
 
   pub no_roots : get (space_left h.space) 2 ≡ None
   no_roots = none_if (get (space_left h.space) 2) (λ sheet on. by (has.drawn 2 (ap is_some on)))
@@ -223,7 +220,7 @@ module _ (others : OthersAreQuiet) (catalog : List Fields) (pages : ℕ) (st : S
       of (inr fresh) = fresh_unchanged (page_in BASE (to a)) fresh
 
   -- an object of the space that is not dead is there at its new address, under its name
-  own_after : (a n : ℕ) → get (book_of BASE (space_left h.space)) a ≡ Some n → (dead a → ⊥) → get new (to a) ≡ Some n
+  pub own_after : (a n : ℕ) → get (book_of BASE (space_left h.space)) a ≡ Some n → (dead a → ⊥) → get new (to a) ≡ Some n
   own_after a n mine live =
       let is = book_of_named BASE (space_left h.space) a n mine in
       let on : get (all_before h p) (page_in BASE a) ≡ Some is.sheet = own_before (page_in BASE a) is.sheet is.on in

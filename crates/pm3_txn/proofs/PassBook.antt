@@ -1,14 +1,12 @@
 -- The book under which the commit of a transaction with its space is read, before its pass.
-use Rattle.std.proofs.Common.{◌≡◌, ◌∙◌, ◌⊎◌, inl, inr, ℕ, true, false, List, Option, Some, None, is_some, refl, sym, ap, subst}
+use Rattle.std.proofs.Common.{◌≡◌, ◌∙◌, ◌⊎◌, inl, inr, ℕ, true, List, Option, Some, None, is_some, refl, sym, ap, subst}
 use Rattle.std.specs.Option.{option_or}
-use Rattle.std.specs.FinMap as map
 use Rattle.std.specs.FinMap.{get, contains_key}
-use Rattle.std.specs.FinSet as set
 use Rattle.pm3_core.specs.declared.naming.TheConstants.{BASE}
 use Rattle.pm3_types.specs.Fields.{Fields}
 use Rattle.pm3_types.specs.Graph.{Part}
 use Rattle.pm3_types.specs.Layout.{Sheet, PageImage, page_in}
-use Rattle.pm3_types.specs.Shown.{Book, Images, FitsImages, IsOneToOne, shown}
+use Rattle.pm3_types.specs.Shown.{Book, FitsImages, IsOneToOne, shown}
 use Rattle.pm3_types.proofs.Books.{shown_from}
 use Rattle.pm3_graph.specs.declared.operations.Op.{Op}
 use Rattle.pm3_graph.specs.Operation.{IsRun}
@@ -18,7 +16,6 @@ use Rattle.pm3_access.specs.Acts.{left_images, found_images, left_part, found_pa
 use Rattle.pm3_access.specs.Holding.{Holding, HeldSpaceState, image_in, space_now}
 use Rattle.pm3_access.proofs.HeldSheets.{get-left_images, get-found_images}
 use Rattle.pm3_history.specs.Commits.{IsCommitOf}
-use Rattle.pm3_history.specs.Entry.{Pass}
 use Rattle.pm3_history.specs.Homes.{IsHome}
 use Rattle.pm3_history.specs.Laid.{laid}
 use Rattle.pm3_history.specs.Lawful.{IsFree}

@@ -1,5 +1,5 @@
 -- The commit of a transaction with its space, whose pass was carried out, may follow the state.
-use Rattle.std.proofs.Common.{◌≡◌, ◌≢◌, ◌<◌, ◌≤◌, ◌+◌, ◌==◌, ◌∙◌, ◌⊎◌, inl, inr, ℕ, zero, suc, Bool, true, false, cond, List, [], ◌∷◌, length, Option, Some, None, is_some, unwrap_or, refl, sym, ap, subst, arith}
+use Rattle.std.proofs.Common.{◌≡◌, ◌≢◌, ◌<◌, ◌==◌, ◌∙◌, ◌⊎◌, inl, inr, ℕ, suc, true, false, List, [], ◌∷◌, Option, Some, None, is_some, unwrap_or, refl, sym, ap, subst, arith}
 use Rattle.std.proofs.lemmas.Bool.{cases_eq, cases_Bool, cond-true, cond-false, eqb-true, false≢true}
 use Rattle.std.specs.Prelude.{drop, take, slice_index_or}
 use Rattle.std.specs.List.{Contains}
@@ -17,7 +17,6 @@ use Rattle.pm3_graph.specs.declared.operations.Op.{Op}
 use Rattle.pm3_copy.specs.PassLaws.{FitsAfter, KeepsRoots, OthersAreQuiet, ShowsNothingNew}
 use Rattle.pm3_access.specs.Acts.{space_left, space_found}
 use Rattle.pm3_access.specs.Holding.{Holding}
-use Rattle.pm3_history.specs.Entry.{Move}
 use Rattle.pm3_history.specs.Laid.{laid}
 use Rattle.pm3_history.specs.Lawful.{Fate, IsFree, IsPass, TakesPages, Writes}
 use Rattle.pm3_history.specs.Lawful.Fate.{Stays, Moved, Dead}

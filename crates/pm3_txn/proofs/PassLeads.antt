@@ -1,5 +1,5 @@
 -- Where the references of written pages lead after a pass.
-use Rattle.std.proofs.Common.{◌≡◌, ◌≢◌, ◌<◌, ◌≤◌, ◌+◌, ◌∙◌, ◌⊎◌, ◌||◌, ◌&&◌, inl, inr, ℕ, Bool, true, false, not, List, Option, Some, None, is_some, refl, sym, ap, subst, arith}
+use Rattle.std.proofs.Common.{◌≡◌, ◌≢◌, ◌<◌, ◌+◌, ◌∙◌, ◌⊎◌, ◌||◌, ◌&&◌, inl, inr, ℕ, Bool, true, false, not, List, Option, Some, None, is_some, refl, sym, ap, subst, arith}
 use Rattle.std.proofs.lemmas.Bool.{and_from, and_parts, false≢true}
 use Rattle.std.specs.Prelude.{slice_get, slice_index}
 use Rattle.std.specs.Option.{option_or}
@@ -10,9 +10,9 @@ use Rattle.pm3_types.specs.Layout.{Sheet, PageImage, address, is_address, is_for
 use Rattle.pm3_types.specs.Least.Least.{begin, next}
 use Rattle.pm3_types.specs.Objects.{is_object_at}
 use Rattle.pm3_types.specs.PageForm.{HasForm, IsReferenceIn, is_memory_reference, map_at, tail_at}
-use Rattle.pm3_types.specs.PassSets.{Kept, Live, Promoted}
+use Rattle.pm3_types.specs.PassSets.{Live}
 use Rattle.pm3_types.specs.PassShown.{IsCopy}
-use Rattle.pm3_types.specs.Shown.{Images, IsKnown}
+use Rattle.pm3_types.specs.Shown.{IsKnown}
 use Rattle.pm3_types.proofs.Addressing.{is_address-address, page_in-address, word_in-address}
 use Rattle.pm3_types.proofs.FormedObjects.{objects_of, whole_start}
 use Rattle.pm3_graph.specs.declared.operations.Op.{Op}
@@ -23,15 +23,15 @@ use Rattle.pm3_history.specs.Lawful.{HaveForm}
 use Rattle.pm3_history.specs.Named.{book_of}
 use Rattle.pm3_history.specs.Persistent.{persistent_book}
 use Rattle.pm3_history.specs.State.{State}
-use Rattle.pm3_history.proofs.Laying.{some_of, some_none, there_none, none_if, one_value, laid_above, laid_below, laid_cases}
+use Rattle.pm3_history.proofs.Laying.{some_of, some_none, there_none, one_value, laid_above, laid_below, laid_cases}
 use Rattle.pm3_history.proofs.Marking.{refers_below}
 use Rattle.pm3_history.proofs.NamedOn.{book_of_named, book_of_has}
 use Rattle.pm3_txn.specs.PassCommits.{Marks, PassState, HasPassed, all_before, all_after, before_pass}
 use Rattle.pm3_txn.specs.TransactionLaws.{IsSettled}
-use Rattle.pm3_txn.specs.Works.{Works, is_own_object, left_book, may_hold, without_space}
+use Rattle.pm3_txn.specs.Works.{Works, is_own_object, left_book, may_hold}
 use Rattle.pm3_txn.proofs.Admitting.{form_by_places, narrow}
-use Rattle.pm3_txn.proofs.OwnBooks.{own_on, with_own, with_cases}
-use Rattle.pm3_txn.proofs.PassAfter.{StandsOn, stands_on, object_at_on, to, dead, quiet, own_before, joined, no_roots}
+use Rattle.pm3_txn.proofs.OwnBooks.{with_own, with_cases}
+use Rattle.pm3_txn.proofs.PassAfter.{StandsOn, stands_on, object_at_on, to, dead, quiet, own_before, no_roots}
 use Rattle.pm3_txn.proofs.PassBook.{changed_alone, before_left}
 
 -- a test that cannot fail passes

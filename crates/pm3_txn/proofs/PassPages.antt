@@ -1,6 +1,6 @@
 -- The pages of a space that is held are its own, or may be drawn.
-use Rattle.std.proofs.Common.{◌≡◌, ◌≢◌, ◌<◌, ◌≤◌, ◌==◌, ◌||◌, ◌&&◌, ◌∙◌, ◌⊎◌, inl, inr, ℕ, Bool, true, false, cond, List, [], ◌∷◌, Option, Some, None, is_some, refl, sym, ap, subst, arith}
-use Rattle.std.proofs.lemmas.Bool.{false≢true, eq-eqb}
+use Rattle.std.proofs.Common.{◌≡◌, ◌≢◌, ◌==◌, ◌||◌, ◌&&◌, ◌∙◌, ◌⊎◌, inl, inr, ℕ, Bool, true, false, cond, List, [], ◌∷◌, Option, Some, None, is_some, refl, sym, ap, subst, arith}
+use Rattle.std.proofs.lemmas.Bool.{eq-eqb}
 use Rattle.std.specs.Ordering.{nat_cmp}
 use Rattle.std.specs.FinMap.{FinMap, get, get-empty, contains_key}
 use Rattle.pm3_core.specs.declared.naming.TheConstants.{BASE}
@@ -8,7 +8,7 @@ use Rattle.pm3_types.specs.Fields.{Fields}
 use Rattle.pm3_types.specs.Layout.{PageImage, page_in}
 use Rattle.pm3_page.specs.PageSheets.{sheet_in, sheets_of}
 use Rattle.pm3_page.proofs.SheetsOf.{get-sheets_of}
-use Rattle.pm3_access.specs.Holding.{Holding, HeldImages, HeldSpaceState}
+use Rattle.pm3_access.specs.Holding.{HeldImages, HeldSpaceState}
 use Rattle.pm3_history.specs.Entry.{Done, Pass}
 use Rattle.pm3_history.specs.Lawful.{IsFree}
 use Rattle.pm3_history.specs.Opens.{Opens}

@@ -1,5 +1,5 @@
 -- No reference leads into a space from outside of it after a pass.
-use Rattle.std.proofs.Common.{◌≡◌, ◌≢◌, ◌∙◌, ◌⊎◌, ◌+◌, inl, inr, ℕ, true, false, cond, List, Option, Some, None, is_some, refl, sym, ap, subst}
+use Rattle.std.proofs.Common.{◌≡◌, ◌≢◌, ◌∙◌, ◌⊎◌, ◌+◌, inl, inr, ℕ, true, cond, List, Option, Some, None, is_some, refl, sym, ap, subst}
 use Rattle.std.specs.Prelude.{◌<◌, slice_index}
 use Rattle.std.specs.List.{Contains}
 use Rattle.std.specs.Ordering.{nat_cmp}
@@ -28,8 +28,8 @@ use Rattle.pm3_txn.specs.Works.{Works, left_book}
 use Rattle.pm3_txn.proofs.Admitting.{home_image}
 use Rattle.pm3_txn.proofs.OwnBooks.{get-space_left, own_on, with_cases}
 use Rattle.pm3_txn.proofs.PassAfter.{StandsOn, to, dead, new, space_page, written_page, after_unwritten, quiet, own_before, now_kept, old_bare, only_after, law_pass}
-use Rattle.pm3_txn.proofs.PassBook.{whole_cases, whole_left, changed_home, before_left, before_fits}
-use Rattle.pm3_txn.proofs.PassLeads.{Refers, IsOwn, leads, root_leads, stays, copied, root_copied}
+use Rattle.pm3_txn.proofs.PassBook.{whole_left, changed_home, before_left, before_fits}
+use Rattle.pm3_txn.proofs.PassLeads.{IsOwn, leads, root_leads, copied, root_copied}
 
 module _ (fits : FitsAfter) (others : OthersAreQuiet) (catalog : List Fields) (pages : ℕ) (st : State) (settled : IsSettled catalog st) (h : Holding) (ops : List (Op × ℕ)) (works : Works catalog pages st h ops)
     (m : Marks) (p : PassState) (has : HasPassed catalog pages st h m p) where

@@ -15,11 +15,12 @@ use Rattle.pm3_txn.specs.Placing.{IsPlaced, IsRefusedPlace, busy_fault}
 use Rattle.pm3_txn.specs.Refusals.{HasObject, with_read, word_at}
 use Rattle.pm3_txn.specs.States.{MutatorState, TxnState, told_in, view_in}
 use Rattle.pm3_txn.specs.Touching.{nothing_more}
-use Rattle.pm3_txn.specs.Owners.{WorksOn, IsHolding, KnowsHere, KnowsWordHere, reads_here, writes_here}
+use Rattle.pm3_txn.specs.Owners.{WorksOn, IsHolding, KnowsHere, KnowsWordHere, own_use, reads_here, writes_here}
 use Rattle.pm3_txn.specs.Underway.{IsUnderway}
 use Rattle.pm3_txn.proofs.Advancing.{moment, advances_both}
 use Rattle.pm3_txn.proofs.Keeping.{Keeps, keeps_same, row_kept}
 use Rattle.pm3_txn.proofs.KeepingWrites.{keeps_written}
+use Rattle.pm3_txn.proofs.NamesBelow.{names_written}
 use Rattle.pm3_txn.proofs.OwnerAnswers.{holdings_read, holdings_write}
 
 module _ {R : Type 0} (content : R → Option (List ℕ)) where
@@ -60,6 +61,7 @@ module _ {R : Type 0} (content : R → Option (List ℕ)) where
       mutator = was.mutator;
       known = row_kept heap.1 m.pass.1 m.pass.1 h now keeps_on m.refs m.wrote (λ q. refl) was.known;
       holding = step_on.1;
+      named = names_written m.next_name h now heap.1.opening.catalog (own_use heap.1 m.pass.1 h) a x place was.holding.places step_on.1.places was.holding.form object has.written was.named;
     }
 
     pub stored_here : HasStored (moment heap tag m h) (moment heap tag m now) a place is_ref x

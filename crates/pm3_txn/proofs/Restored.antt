@@ -37,6 +37,7 @@ cleared_given {R} old mid new f has given =
       marks = λ p. ap (λ (l : List Deed). marks_of l p) log ∙ has.marks p;
       space = ap (λ (m : MutatorState R). m.space) given ∙ has.space;
       reader = ap (λ (m : MutatorState R). m.reader) given ∙ has.reader;
+      next_name = ap (λ (m : MutatorState R). m.next_name) given ∙ has.next_name;
       view = (
         ap (λ (m : MutatorState R). m.pass.0) given ∙ has.view.0,
         ap (λ (m : MutatorState R). m.pass.1) given ∙ ap (λ (v : View). record v { holds = new.pass.1.holds }) has.view.1

@@ -2,7 +2,7 @@
 use Rattle.std.proofs.Common.{◌≡◌, ◌<◌, ◌∙◌, ℕ, true, List, Option, Some, refl, sym, subst}
 use Rattle.atomic_table.specs.Seated.{TableId}
 use Rattle.pm3_access.specs.Holding.{Holding}
-use Rattle.pm3_access.specs.Roots.{root_held, root_written}
+use Rattle.pm3_access.specs.Roots.{root_held, root_written, images_rooted}
 use Rattle.pm3_table.specs.declared.unit.Busy.{Busy}
 use Rattle.pm3_table.specs.declared.view.Told.{Told}
 use Rattle.pm3_txn.specs.declared.faults.AccessFault.{AccessFault}
@@ -16,7 +16,8 @@ use Rattle.pm3_txn.specs.Underway.{IsUnderway}
 use Rattle.pm3_txn.proofs.Advancing.{moment, advances_both}
 use Rattle.pm3_txn.proofs.Keeping.{keeps_same, row_kept}
 use Rattle.pm3_txn.proofs.OwnerAnswers.{holdings_read_root, holdings_write_root}
-use Rattle.pm3_txn.proofs.KeepingWrites.{keeps_rooted}
+use Rattle.pm3_txn.proofs.KeepingWrites.{keeps_rooted, same_space}
+use Rattle.pm3_txn.proofs.NamesBelow.{names_same}
 
 module _ {R : Type 0} (content : R → Option (List ℕ)) where
   -- an address that stands in a slot of the page that was touched
@@ -45,6 +46,7 @@ module _ {R : Type 0} (content : R → Option (List ℕ)) where
       mutator = was.mutator;
       known = row_kept heap.1 m.pass.1 m.pass.1 h now (keeps_rooted heap.1 m.pass.1 h now slot x is) m.refs m.wrote (λ q. refl) was.known;
       holding = step_on.1;
+      named = names_same m.next_name h now (same_space h now (images_rooted h.pages slot x) is) was.named;
     }
 
     pub root_stored_here : HasRootStored (moment heap tag m h) (moment heap tag m now) slot x

@@ -36,7 +36,8 @@ pub read_underway : {R : Type 0} (content : R → Option (List ℕ)) (heap : Tab
     → IsUnderway content (moment heap tag m h) → IsMutatorOf content heap n → IsUnderway content (moment heap tag n h)
 read_underway {R} content heap m n h tag i is was kept =
     still_underway content heap m n h tag (subst (λ (x : MutatorState R). x.pass.1 ≡ record m.pass.1 { log = x.pass.1.log; refusals = x.pass.1.refusals }) (sym is) refl)
-    (λ q. ap (λ (x : MutatorState R). word_of x.pass.1.log q) is) (ap (λ (x : MutatorState R). x.refs) is) (ap (λ (x : MutatorState R). x.wrote) is) (ap (λ (x : MutatorState R). x.space) is) was kept
+    (λ q. ap (λ (x : MutatorState R). word_of x.pass.1.log q) is) (ap (λ (x : MutatorState R). x.refs) is) (ap (λ (x : MutatorState R). x.wrote) is) (ap (λ (x : MutatorState R). x.space) is)
+    (ap (λ (x : MutatorState R). x.next_name) is) was kept
 
 module _ {R : Type 0} (t new : TxnState R) (i : ℕ) where
   same_from : IsSameButHeld (with_read t i) new → IsSameButHeld t new

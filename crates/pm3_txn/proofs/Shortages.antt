@@ -1,18 +1,18 @@
 -- Why no room was made for a new object.
-use Rattle.std.proofs.Common.{◌≡◌, ◌+◌, ◌≤◌, ◌∙◌, ◌⊎◌, inl, inr, ℕ, true, false, Option, is_some, sym, ap, subst, arith}
+use Rattle.std.proofs.Common.{◌≡◌, ◌∙◌, ◌⊎◌, inl, inr, ℕ, true, Option, is_some, sym, ap, subst, arith}
 use Rattle.pm3_types.specs.Layout.{PageImage}
 use Rattle.pm3_access.specs.Making.{has_room_for}
 use Rattle.pm3_txn.specs.declared.faults.AccessFault.{AccessFault}
 use Rattle.pm3_txn.specs.declared.faults.AccessFault.TheVariants.{Memory}
 use Rattle.pm3_txn.specs.Spaces.{HasNone, IsOutOfPages, IsPageShortage, IsShortOfMemory}
 use Rattle.pm3_txn.specs.States.{TxnState}
-use Rattle.pm3_txn.proofs.Made.{space_itself}
+use Rattle.pm3_txn.proofs.Made.{drew_none, space_itself}
 
 module _ {R : Type 0} where
   -- there was no memory, and nothing was done
   pub short_same : (old new : TxnState R) (fault : AccessFault) → is_some old.held.space ≡ true → fault ≡ Memory → new ≡ old → IsShortOfMemory old new fault
   short_same old new fault there memory same = subst (λ (t : TxnState R). IsShortOfMemory old t fault) (sym same)
-      (record { drawn = 0; memory = memory; grown = space_itself old there; drew = ((omega arith, omega arith), omega arith) })
+      (record { drawn = 0; memory = memory; grown = space_itself old there; drew = (drew_none old, omega arith) })
 
   -- or no page was free, and none could be drawn
   pub room_refused : (old mid new : TxnState R) (fault : AccessFault) → mid ≡ old → HasNone old.held.space → is_some old.held.space ≡ true

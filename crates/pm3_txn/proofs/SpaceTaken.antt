@@ -131,11 +131,12 @@ module _ {D R : Type 0} (g : Ghosts D R) (content : R → Option (List ℕ)) (he
         known = subst (λ (l : List Bool × List Bool). RemembersHere heap.1 n.pass.1 (with_held_space h space) l.0 l.1) (λ i. (sym same.refs i, sym same.wrote i))
             (row_kept heap.1 m.pass.1 n.pass.1 h (with_held_space h space) keeps m.refs m.wrote same.words was.known);
         holding = subst (λ (k : ℕ). IsHolding heap.1 n.pass.1 k (with_held_space h space)) (sym same.space) goes.1;
+        named = λ a k there. inl there;
       }
 
       pub space_taken : HasTakenSpace (moment heap tag m h) (moment heap tag n (with_held_space h space))
       space_taken =
-          let calm = took_calm g heap.1 m n u (Some (Space space)) space_free has not_turn heap tag h (with_held_space h space) n refl in
+          let calm = took_calm g heap.1 m n u (Some (Space space)) space_free has not_turn heap tag h (with_held_space h space) n refl refl in
           record {
             same = same;
             drew = calm.1;
@@ -162,11 +163,12 @@ module _ {D R : Type 0} (g : Ghosts D R) (content : R → Option (List ℕ)) (he
           (ap (λ (x : MutatorState R). x.refs) given) (ap (λ (x : MutatorState R). x.wrote) given)
 
       pub back_underway : IsUnderway content (moment heap tag p h)
-      back_underway = further_underway content heap m p h tag has.taken.between below then.0 was then.1 back_same.words back_same.refs back_same.wrote back_same.space kept_then
+      back_underway = further_underway content heap m p h tag has.taken.between below then.0 was then.1 back_same.words back_same.refs back_same.wrote back_same.space
+          (ap (λ (x : MutatorState R). x.next_name) given ∙ ap (λ (x : MutatorState R). x.next_name) has.rest) kept_then
 
       pub space_given_back : IsSpaceGivenBack (moment heap tag m h) (moment heap tag p h)
       space_given_back =
-          let calm = took_calm g heap.1 m n u (Some (Space space)) space_free has not_turn heap tag h h p view in
+          let calm = took_calm g heap.1 m n u (Some (Space space)) space_free has not_turn heap tag h h p view (ap (λ (x : MutatorState R). x.next_name) given) in
           record {
             same = back_same;
             drew = calm.1;
@@ -195,7 +197,7 @@ space_held content heap m h tag was is = record {
     mine = refl;
     faults = refl;
   };
-  drew = (refl, refl, refl);
+  drew = (refl, refl, refl, refl);
   refusals = refl;
   holds = sym (ap (λ (b : Bool). if b then m.pass.1.holds else (Took (space_unit heap.1.pages m.space) ∷ m.pass.1.holds)) is);
   held = is;

@@ -37,9 +37,9 @@ module _ {R : Type 0} where
       → ((q : ℕ) → q ≢ place → stands_of log q ≡ stands_of old.pass.1.log q)
       → ((p : ℕ) → marks_of log p ≡ marks_of old.pass.1.log p)
       → Becomes old.pass mid.pass (record old.pass.1 { log = log; refusals = refusals })
-      → mid.refs ≡ old.refs → mid.wrote ≡ set old.wrote place true → mid.space ≡ old.space → mid.reader ≡ old.reader
+      → mid.refs ≡ old.refs → mid.wrote ≡ set old.wrote place true → mid.space ≡ old.space → mid.reader ≡ old.reader → mid.next_name ≡ old.next_name
       → new ≡ tagged mid place is_ref → HasPut old new place word is_ref
-  put_by old mid new place word is_ref log refusals words stands marks view refs wrote space reader is =
+  put_by old mid new place word is_ref log refusals words stands marks view refs wrote space reader next is =
       let shown : new.pass.1 ≡ record old.pass.1 { log = log; refusals = refusals } = ap (λ (m : MutatorState R). m.pass.1) is ∙ view.1 in
       let logs : new.pass.1.log ≡ log = ap (λ (v : View). v.log) shown in
       record {
@@ -50,6 +50,7 @@ module _ {R : Type 0} where
         wrote = ap (λ (m : MutatorState R). m.wrote) is ∙ wrote;
         space = ap (λ (m : MutatorState R). m.space) is ∙ space;
         reader = ap (λ (m : MutatorState R). m.reader) is ∙ reader;
+        next_name = ap (λ (m : MutatorState R). m.next_name) is ∙ next;
         view = (ap (λ (m : MutatorState R). m.pass.0) is ∙ view.0, by_log old.pass.1 new.pass.1 log refusals shown);
       }
 
@@ -63,6 +64,7 @@ module _ {R : Type 0} where
       (λ p. refl)
       (ap (λ (m : MutatorState R). m.pass.0) was, ap (λ (m : MutatorState R). m.pass.1) was)
       (ap (λ (m : MutatorState R). m.refs) was) (ap (λ (m : MutatorState R). m.wrote) was) (ap (λ (m : MutatorState R). m.space) was) (ap (λ (m : MutatorState R). m.reader) was)
+      (ap (λ (m : MutatorState R). m.next_name) was)
       is
 
   -- what the three steps of a put that is not refused leave
@@ -91,6 +93,7 @@ module _ {R : Type 0} where
             (ap (λ (m : MutatorState R). m.wrote) rest ∙ ap (λ (m : MutatorState R). m.wrote) was)
             (ap (λ (m : MutatorState R). m.space) rest ∙ ap (λ (m : MutatorState R). m.space) was)
             (ap (λ (m : MutatorState R). m.reader) rest ∙ ap (λ (m : MutatorState R). m.reader) was)
+            (ap (λ (m : MutatorState R). m.next_name) rest ∙ ap (λ (m : MutatorState R). m.next_name) was)
             is;
         pinned = inl (ap (λ (v : View). stands_of v.log place) shown ∙ put_here (put (stands_of old.pass.1.log) place false) place true);
         calm = ap (λ (v : View). v.refusals) shown;
@@ -120,6 +123,7 @@ module _ {R : Type 0} where
             (ap (λ (m : MutatorState R). m.wrote) rest ∙ ap (λ (m : MutatorState R). m.wrote) was)
             (ap (λ (m : MutatorState R). m.space) rest ∙ ap (λ (m : MutatorState R). m.space) was)
             (ap (λ (m : MutatorState R). m.reader) rest ∙ ap (λ (m : MutatorState R). m.reader) was)
+            (ap (λ (m : MutatorState R). m.next_name) rest ∙ ap (λ (m : MutatorState R). m.next_name) was)
             is;
         pinned = inr (λ page named. none page (subst (λ (a : ℕ). Names pages a page) same named));
         calm = ap (λ (v : View). v.refusals) shown;
@@ -158,6 +162,7 @@ module _ {R : Type 0} where
             (ap (λ (m : MutatorState R). m.wrote) next ∙ ap (λ (l : List Bool). set l place true) (ap (λ (m : MutatorState R). m.wrote) rest ∙ ap (λ (m : MutatorState R). m.wrote) was) ∙ set-set old.wrote place true true)
             (ap (λ (m : MutatorState R). m.space) next ∙ ap (λ (m : MutatorState R). m.space) rest ∙ ap (λ (m : MutatorState R). m.space) was)
             (ap (λ (m : MutatorState R). m.reader) next ∙ ap (λ (m : MutatorState R). m.reader) rest ∙ ap (λ (m : MutatorState R). m.reader) was)
+            (ap (λ (m : MutatorState R). m.next_name) next ∙ ap (λ (m : MutatorState R). m.next_name) rest ∙ ap (λ (m : MutatorState R). m.next_name) was)
             is,
         record {
           page = page;

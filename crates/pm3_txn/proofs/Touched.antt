@@ -40,7 +40,7 @@ use Rattle.pm3_history.specs.Opens.{Opens}
 use Rattle.pm3_history.specs.State.{State}
 use Rattle.pm3_txn.specs.Loads.{HasOnlyRead, IsPersistent}
 use Rattle.pm3_txn.specs.OwnerLaws.{GoesFurther}
-use Rattle.pm3_txn.specs.Owners.{WorksOn, AdvancesOn, IsHolding, IsOwnUnit, RemembersHere, found_here}
+use Rattle.pm3_txn.specs.Owners.{WorksOn, AdvancesOn, HasNamesBelow, IsHolding, IsOwnUnit, RemembersHere, found_here}
 use Rattle.pm3_txn.specs.Slots.{stands_for, pages_in, faults_in}
 use Rattle.pm3_txn.specs.States.{MutatorState, TxnState, told_in}
 use Rattle.pm3_txn.specs.Takes.{HasTaken, with_view}
@@ -78,7 +78,7 @@ module _ {R : Type 0} (content : R → Option (List ℕ)) (heap : TableId × Tol
   pub away_underway : IsUnderway content (moment heap tag m h) → IsMutatorOf content heap n → IsUnderway content (moment heap tag n h)
   away_underway was kept =
       still_underway content heap m n h tag refused_view (λ q. ap (λ (x : MutatorState R). word_of x.pass.1.log q) is)
-      (ap (λ (x : MutatorState R). x.refs) is) (ap (λ (x : MutatorState R). x.wrote) is) (ap (λ (x : MutatorState R). x.space) is) was kept
+      (ap (λ (x : MutatorState R). x.refs) is) (ap (λ (x : MutatorState R). x.wrote) is) (ap (λ (x : MutatorState R). x.space) is) (ap (λ (x : MutatorState R). x.next_name) is) was kept
 
   pub away_same : IsSameButHeld (moment heap tag m h) (moment heap tag n h)
   away_same = record {
@@ -97,7 +97,12 @@ module _ {R : Type 0} (content : R → Option (List ℕ)) (heap : TableId × Tol
   }
 
   pub away_drew : DrewNothing (moment heap tag m h) (moment heap tag n h)
-  away_drew = (ap (λ (x : MutatorState R). x.pass.1.drew_pages) is, ap (λ (x : MutatorState R). x.pass.1.drew_names) is, ap (λ (x : MutatorState R). x.pass.1.filled) is)
+  away_drew = (
+    ap (λ (x : MutatorState R). x.pass.1.drew_pages) is,
+    ap (λ (x : MutatorState R). x.pass.1.drew_names) is,
+    ap (λ (x : MutatorState R). x.pass.1.filled) is,
+    ap (λ (x : MutatorState R). x.next_name) is,
+  )
 
   pub away_goes : AdvancesOn heap.1 m.pass.1 h n.pass.1 h nothing_more
   away_goes = goes_still heap.1 m.pass.1 n.pass.1 h (ap (λ (x : MutatorState R). x.pass.1.seen) is)
@@ -178,6 +183,7 @@ module _ {D R : Type 0} (g : Ghosts D R) (content : R → Option (List ℕ)) (fa
 
     calm_now : (p : MutatorState R) (held : Holding) → HasOnlyGiven o p → (p.pass.1.refusals ≡ m.pass.1.refusals) × DrewNothing (moment heap tag m h) (moment heap tag p held)
     calm_now p held is = took_calm g heap.1 m n page slot not_held has not_turn heap tag h held p (view_now p is)
+        (ap (λ (x : MutatorState R). x.next_name) is ∙ ap (λ (x : MutatorState R). x.next_name) read.rest)
 
     read_same : IsSameButHeld (moment heap tag m h) (moment heap tag o h)
     read_same = same_now o h refl
@@ -213,6 +219,7 @@ module _ {D R : Type 0} (g : Ghosts D R) (content : R → Option (List ℕ)) (fa
         known = subst (λ (l : List Bool × List Bool). RemembersHere heap.1 o.pass.1 (admitted h image) l.0 l.1) (λ i. (sym read_same.refs i, sym read_same.wrote i))
             (row_kept heap.1 m.pass.1 o.pass.1 h (admitted h image) keeps m.refs m.wrote read_same.words was.known);
         holding = subst (λ (k : ℕ). IsHolding heap.1 o.pass.1 k (admitted h image)) (sym read_same.space) goes.1;
+        named = subst (λ (k : ℕ). HasNamesBelow k h) (sym (calm_now o h refl).1.3) was.named;
       }
 
       here : image_in h image.page ≡ None
@@ -238,7 +245,7 @@ module _ {D R : Type 0} (g : Ghosts D R) (content : R → Option (List ℕ)) (fa
       back_same = same_now p h (gave_only o p page given)
 
       pub back_underway : IsUnderway content (moment heap tag p h)
-      back_underway = further_underway content heap m p h tag taken.between below then.0 was then.1 back_same.words back_same.refs back_same.wrote back_same.space kept_then
+      back_underway = further_underway content heap m p h tag taken.between below then.0 was then.1 back_same.words back_same.refs back_same.wrote back_same.space (calm_now p h (gave_only o p page given)).1.3 kept_then
 
       pub given_back : IsGivenBack (moment heap tag m h) (moment heap tag p h) page
       given_back = record {

@@ -2,17 +2,18 @@
 use Rattle.std.proofs.Common.{◌≡◌, ◌≢◌, ◌⊎◌, ⊎_elim, ◌<◌, ◌≤◌, ◌+◌, ◌^◌, ◌++◌, ◌||◌, ◌∙◌, inl, inr, ℕ, true, false, List, [], ◌∷◌, map, length, Option, Some, None, Ok, is_some, refl, sym, ap, subst, arith, append_assoc}
 use Rattle.std.proofs.lemmas.Bool.{false≢true}
 use Rattle.std.specs.Option.{option_map}
-use Rattle.std.specs.FinMap.{contains_key, get}
+use Rattle.std.specs.FinMap.{contains_key, get, keys}
 use Rattle.pm3_core.specs.declared.naming.TheConstants.{BASE}
 use Rattle.pm3_disk.specs.Content.{Steps}
 use Rattle.pm3_disk.specs.Faults.{Rose}
 use Rattle.pm3_disk.specs.declared.outside.Disk.{Ghosts}
 use Rattle.pm3_types.specs.Fields.{Fields}
 use Rattle.pm3_types.specs.Layout.{PageImage, Sheet}
+use Rattle.pm3_types.specs.Shown.{Images as Sheets}
 use Rattle.pm3_page.specs.PageBytes.{file_bytes, page_read}
+use Rattle.pm3_page.specs.PageMap.{Images}
 use Rattle.pm3_page.specs.PageSheets.{sheet_in}
 use Rattle.pm3_page.proofs.SheetsOf.{get-sheets_of}
-use Rattle.pm3_access.specs.declared.parted.Parted.{Parted}
 use Rattle.pm3_journal.specs.declared.entry.Entry.{Entry}
 use Rattle.pm3_journal.specs.Entered.{record_of}
 use Rattle.pm3_journal.specs.Format.{AreParts, IsFit, JournalRecord, PagePart, page_in}
@@ -31,7 +32,7 @@ use Rattle.pm3_table.specs.declared.view.Told.{Told}
 use Rattle.pm3_table.specs.Entries.{writes}
 use Rattle.pm3_table.specs.Histories.{some_has}
 use Rattle.pm3_table.proofs.Has.{has_one}
-use Rattle.pm3_txn.specs.Committing.{AreFiled, AreWritable, IsEntryFor, done_by, file_items}
+use Rattle.pm3_txn.specs.Committing.{AreFiled, AreWritable, IsDoneOf, IsEntryFor, IsEntryOf, file_items}
 use Rattle.pm3_txn.specs.Values.{AreFiledRecords, HasRecords, IsFiledRecord, IsTurnOf, TurnState, due_after, next_name_after, summaries_from, summary_at}
 use Rattle.pm3_txn.proofs.Filed.{image_of_record, number_low, pages_same, parts_are}
 use Rattle.pm3_txn.proofs.Seeing.{now_later}
@@ -88,87 +89,95 @@ bytes_for : (catalog : List Fields) (o : Option PageImage) (sheet : Sheet) → s
 bytes_for catalog None sheet is = absurd (cc is)
 bytes_for catalog (Some image) sheet is = refl
 
-module _ {D R : Type 0} (g : Ghosts D R) (told : Told) (lost seen : List Done) (unit tag row : ℕ) (t : TurnState D R) (is : IsTurnOf g told lost seen unit t)
-    (small : told.pages < 16385) (e : Entry) (p : Parted) (entry : IsEntryFor told.opening.catalog tag t p.written.images e)
-    (writable : AreWritable told.opening.catalog told.pages p.written.images) (filed : AreFiled told.opening.catalog p.written.images) where
+-- an entry of a commit that made no name and moved nothing is one
+pub entry_of : {D R : Type 0} (catalog : List Fields) (tag : ℕ) (t : TurnState D R) (images : Images) (e : Entry) → t.next_name ≤ 2 ^ 62 → IsEntryFor catalog tag t images e
+    → IsEntryOf catalog tag t images e
+entry_of catalog tag t images e low is = record {
+  tag_is = is.tag_is;
+  names = (let name = is.name in (omega (arith, name), omega (arith, name, low)));
+  top = is.top;
+  few = (let pins = is.none.0 in let moved = is.none.1 in (omega (arith, pins), omega (arith, moved)));
+  pages = is.pages;
+}
+
+module _ {D R : Type 0} (g : Ghosts D R) (told : Told) (lost seen : List Done) (unit tag : ℕ) (t : TurnState D R) (is : IsTurnOf g told lost seen unit t)
+    (small : told.pages < 16385) (e : Entry) (images : Images) (entry : IsEntryOf told.opening.catalog tag t images e) (d : Done) (done : IsDoneOf e images d)
+    (writable : AreWritable told.opening.catalog told.pages images) (filed : AreFiled told.opening.catalog images) where
   abbrev r : JournalRecord
   r = record_of t.journal.next e
-
-  abbrev d : Done
-  d = done_by row e p
 
   abbrev catalog : List Fields
   catalog = told.opening.catalog
 
-  parts_is : map part_of e.pages.items ≡ map part_of (file_items catalog p.written.images)
+  parts_is : map part_of e.pages.items ≡ map part_of (file_items catalog images)
   parts_is = ap (map part_of) entry.pages
 
   -- the high page is in the store
   pub high_low : e.high_page ≤ told.pages
   high_low = of entry.top.met
     where
-      of : (e.high_page ≡ t.high_page) ⊎ ((q : ℕ) × (contains_key p.written.images q ≡ true) × (e.high_page ≡ q + 1)) → e.high_page ≤ told.pages
+      of : (e.high_page ≡ t.high_page) ⊎ ((q : ℕ) × (contains_key images q ≡ true) × (e.high_page ≡ q + 1)) → e.high_page ≤ told.pages
       of (inl same) = (let low = is.bounds.3 in omega (arith, low, same))
-      of (inr (q, has, at)) = inside (get p.written.images q) refl has
+      of (inr (q, has, at)) = inside (get images q) refl has
         where
-          inside : (o : Option PageImage) → get p.written.images q ≡ o → is_some o ≡ true → e.high_page ≤ told.pages
+          inside : (o : Option PageImage) → get images q ≡ o → is_some o ≡ true → e.high_page ≤ told.pages
           inside None none e' = absurd (cc e')
           inside (Some image) there e' = (let low = (writable q image there).2 in omega (arith, low, at))
 
   pub is_fit : t.journal.next < 2 ^ 64 → e.tag < 2 ^ 32 → IsFit t.journal.pages r
   is_fit due_low tag_low =
       let count = is.page_count.0 in let high = high_low in let least = entry.top.most in let b = is.bounds in
-      let pins = entry.none.0 in let moved = entry.none.1 in let name = entry.name in
-      let n0 = b.0 in let n1 = b.1 in let n2 = b.2 in let n3 = b.3 in
+      let pins = entry.few.0 in let moved = entry.few.1 in let name = entry.names.0 in let names = entry.names.1 in
+      let n0 = b.0 in let n2 = b.2 in let n3 = b.3 in
       record {
         page_count = omega (arith, count, small);
         seq = due_low;
         named = omega (arith, name, n0);
-        names = omega (arith, name, n1);
+        names = names;
         tag = tag_low;
-        number = (let long = ap length parts_is in let low = number_low catalog told.pages p.written.images writable (omega (arith, n2, n3)) in omega (arith, long, low, count));
+        number = (let long = ap length parts_is in let low = number_low catalog told.pages images writable (omega (arith, n2, n3)) in omega (arith, long, low, count));
         low = omega (arith, least, n2);
         high = omega (arith, high, count);
         pins = omega (arith, pins);
         moved = omega (arith, moved);
         parts = subst (λ (n : ℕ). AreParts n 1 r.parts) (sym count)
-            (subst (λ (l : List PagePart). AreParts told.pages 1 l) (sym parts_is) (parts_are catalog told.pages p.written.images writable filed));
+            (subst (λ (l : List PagePart). AreParts told.pages 1 l) (sym parts_is) (parts_are catalog told.pages images writable filed));
       }
 
   summary_is : summary_of r ≡ summary_at t.journal.next d
   summary_is = λ i. record {
     seq = t.journal.next;
-    next_name = e.next_name;
-    tag = e.tag;
-    high_page = e.high_page;
-    pins = entry.none.0 i;
-    moved = entry.none.1 i;
-    pages = (ap (map page_in) parts_is ∙ pages_same catalog p.written.images) i;
+    next_name = sym done.next_name i;
+    tag = sym done.tag i;
+    high_page = sym done.high_page i;
+    pins = sym done.pins i;
+    moved = sym done.moved i;
+    pages = (ap (map page_in) parts_is ∙ pages_same catalog images ∙ ap keys (sym done.written_is)) i;
   }
 
-  image_is : (q : ℕ) → image_in q r.parts None ≡ option_map (file_bytes catalog BASE) (get p.written.images q)
-  image_is q = ap (λ (l : List PagePart). image_in q l None) parts_is ∙ image_of_record catalog p.written.images q
+  image_is : (q : ℕ) → image_in q r.parts None ≡ option_map (file_bytes catalog BASE) (get images q)
+  image_is q = ap (λ (l : List PagePart). image_in q l None) parts_is ∙ image_of_record catalog images q
 
   record_is : IsRecordOf catalog BASE told.pages d r
-  record_is = record { tag = refl; next_name = refl; high_page = refl; images = images_of; written = written_of }
+  record_is = record { tag = sym done.tag; next_name = sym done.next_name; high_page = sym done.high_page; images = images_of; written = written_of }
     where
       images_of : (q : ℕ) (bytes : List ℕ) → image_in q r.parts None ≡ Some bytes → (sheet : Sheet) × (get d.written q ≡ Some sheet) × (page_read catalog BASE told.pages q bytes ≡ Ok sheet)
       images_of q bytes there =
-          let from = image_for catalog (get p.written.images q) bytes (sym (image_is q) ∙ there) in
+          let from = image_for catalog (get images q) bytes (sym (image_is q) ∙ there) in
           let low = writable q from.0 from.1 in (
             from.0.sheet,
-            get-sheets_of p.written.images q ∙ ap sheet_in from.1,
+            ap (λ (m : Sheets). get m q) done.written_is ∙ get-sheets_of images q ∙ ap sheet_in from.1,
             subst (λ (n : ℕ). page_read catalog BASE told.pages n bytes ≡ Ok from.0.sheet) low.0
                 (subst (λ (l : List ℕ). page_read catalog BASE told.pages from.0.page l ≡ Ok from.0.sheet) from.2 ((filed q from.0 from.1).back told.pages (omega (arith, small)) low.3)),
           )
 
       written_of : (q : ℕ) (sheet : Sheet) → get d.written q ≡ Some sheet → is_some (image_in q r.parts None) ≡ true
-      written_of q sheet has = ap is_some (image_is q) ∙ bytes_for catalog (get p.written.images q) sheet (sym (get-sheets_of p.written.images q) ∙ has)
+      written_of q sheet has = ap is_some (image_is q) ∙ bytes_for catalog (get images q) sheet (sym (ap (λ (m : Sheets). get m q) done.written_is ∙ get-sheets_of images q) ∙ has)
 
   -- what it has of each page is written of the sheet as which it reads
   record_filed : IsFiledRecord catalog told.pages r
   record_filed q bytes there =
-      let from = image_for catalog (get p.written.images q) bytes (sym (image_is q) ∙ there) in
+      let from = image_for catalog (get images q) bytes (sym (image_is q) ∙ there) in
       let low = writable q from.0 from.1 in (
         from.0.sheet,
         subst (λ (n : ℕ). page_read catalog BASE told.pages n bytes ≡ Ok from.0.sheet) low.0
@@ -178,10 +187,10 @@ module _ {D R : Type 0} (g : Ghosts D R) (told : Told) (lost seen : List Done) (
 
   -- its pages are in the store
   within_more : (q : ℕ) → some_has writes (seen ++ d ∷ []) q ≡ true → (2 ≤ q) × (q < told.pages)
-  within_more q has = ⊎_elim (is.within q) (λ one. of (get p.written.images q) refl one) (has_one writes seen (d ∷ []) q has)
+  within_more q has = ⊎_elim (is.within q) (λ one. of (get images q) refl one) (has_one writes seen (d ∷ []) q has)
     where
-      of : (o : Option PageImage) → get p.written.images q ≡ o → some_has writes (d ∷ []) q ≡ true → (2 ≤ q) × (q < told.pages)
-      of None none one = absurd (false≢true (sym (ap (λ (o : Option Sheet). is_some o || false) (get-sheets_of p.written.images q ∙ ap sheet_in none)) ∙ one))
+      of : (o : Option PageImage) → get images q ≡ o → some_has writes (d ∷ []) q ≡ true → (2 ≤ q) × (q < told.pages)
+      of None none one = absurd (false≢true (sym (ap (λ (o : Option Sheet). is_some o || false) (ap (λ (m : Sheets). get m q) done.written_is ∙ get-sheets_of images q ∙ ap sheet_in none)) ∙ one))
       of (Some image) on one = (let low = writable q image on in (low.1, low.2))
 
   -- the journal has the record
@@ -225,11 +234,14 @@ module _ {D R : Type 0} (g : Ghosts D R) (told : Told) (lost seen : List Done) (
       page_count = is.page_count;
       summaries = summaries_now;
       due = ap next_seq is.due ∙ sym (due_more told.opening.due seen d);
-      bounds = (let b = is.bounds in let name = entry.name in let least = entry.top.most in let high = high_low in let n0 = b.0 in let n1 = b.1 in let n2 = b.2 in
-          (omega (arith, name, n0), omega (arith, name, n1), omega (arith, least, n2), high));
+      bounds = (let b = is.bounds in let name = entry.names.0 in let least = entry.top.most in let high = high_low in let n0 = b.0 in let n2 = b.2 in
+          (omega (arith, name, n0), entry.names.1, omega (arith, least, n2), high));
       last = λ front s at. (let same = last_same t.journal.summaries front (summary_of r) s at in (ap (λ (x : Summary). x.next_name) same, ap (λ (x : Summary). x.high_page) same));
-      marks = λ st opens. (sym (ap (λ (x : State). x.next_name) (now_later told seen (d ∷ []) st)), sym (ap (λ (x : State). x.high_page) (now_later told seen (d ∷ []) st)));
-      name_is = sym (name_more told.next_name seen d);
+      marks = λ st opens. (
+        sym done.next_name ∙ sym (ap (λ (x : State). x.next_name) (now_later told seen (d ∷ []) st)),
+        sym done.high_page ∙ sym (ap (λ (x : State). x.high_page) (now_later told seen (d ∷ []) st)),
+      );
+      name_is = sym done.next_name ∙ sym (name_more told.next_name seen d);
       none = λ none. absurd (more_some t.journal.summaries (summary_of r) none);
       records_are = records_now;
       tells = λ _ none. told_not (g.content disk) (is.tells whole none) (λ bytes at. (let was = added.back bytes at in (was.0, was.1)));

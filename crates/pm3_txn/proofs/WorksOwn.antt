@@ -22,7 +22,8 @@ use Rattle.pm3_history.specs.Named.{book_of}
 use Rattle.pm3_history.specs.State.{State}
 use Rattle.pm3_history.proofs.Laying.{some_none, there_none, one_value}
 use Rattle.pm3_history.proofs.NamedOn.{book_of_named, book_of_has}
-use Rattle.pm3_txn.specs.Works.{IsLastSpace}
+use Rattle.pm3_txn.specs.OwnStarts.{starts_on}
+use Rattle.pm3_txn.specs.Works.{IsLastSpace, is_own_start}
 use Rattle.pm3_txn.proofs.OwnBooks.{get-space_left}
 
 -- a sheet of the space is that of an image that is held, and of a page that is not held alone
@@ -94,6 +95,35 @@ module _ (h : Holding) (page : ℕ) (image now : PageImage) (there : image_in h 
       of : (o : Option PageImage) → IsLastSpace st h.space → IsLastSpace st (changed_by o h page now).space
       of None = by h.space
       of (Some old) = λ is. is
+
+  -- where objects begin on them objects begin still
+  pub own_start_still : ((s : ℕ) → is_start image.sheet s ≡ true → is_start now.sheet s ≡ true) → (a : ℕ) → is_own_start h a ≡ true → is_own_start (changed h page now) a ≡ true
+  own_start_still more a = of (get h.pages.left page) refl
+    where
+      by : (s : Option HeldSpaceState) → space_now s page ≡ Some image → starts_on (space_now s (page_in BASE a)) (word_in BASE a) ≡ true
+          → starts_on (space_now (option_map (λ t. space_with t page now) s) (page_in BASE a)) (word_in BASE a) ≡ true
+      by None has is = is
+      by (Some s) has is = elim (cases_eq (page_in BASE a) page) [
+        | inl e ↦ ap (λ (o : Option PageImage). starts_on o (word_in BASE a)) (images_at.get_same s.images.left page (page_in BASE a) now e)
+            ∙ more (word_in BASE a) (sym (ap (λ (o : Option PageImage). starts_on o (word_in BASE a)) (ap (get s.images.left) e ∙ has)) ∙ is)
+        | inr ne ↦ ap (λ (o : Option PageImage). starts_on o (word_in BASE a)) (images_at.get_other s.images.left page (page_in BASE a) now ne) ∙ is
+      ]
+
+      of : (o : Option PageImage) → get h.pages.left page ≡ o → is_own_start h a ≡ true → starts_on (space_now (changed_by o h page now).space (page_in BASE a)) (word_in BASE a) ≡ true
+      of None none = by h.space (sym (ap (λ (o : Option PageImage). option_or o (space_now h.space page)) none) ∙ there)
+      of (Some old) on = λ is. is
+
+  -- one begins where one begins on the other image
+  pub own_start_here : get h.pages.left page ≡ None → (a : ℕ) → page_in BASE a ≡ page → is_start now.sheet (word_in BASE a) ≡ true → is_own_start (changed h page now) a ≡ true
+  own_start_here alone a at begins = of (get h.pages.left page) refl
+    where
+      by : (s : Option HeldSpaceState) → space_now s page ≡ Some image → starts_on (space_now (option_map (λ t. space_with t page now) s) (page_in BASE a)) (word_in BASE a) ≡ true
+      by None has = absurd (some_none (space_now None page) image has refl)
+      by (Some s) has = ap (λ (o : Option PageImage). starts_on o (word_in BASE a)) (images_at.get_same s.images.left page (page_in BASE a) now at) ∙ begins
+
+      of : (o : Option PageImage) → get h.pages.left page ≡ o → starts_on (space_now (changed_by o h page now).space (page_in BASE a)) (word_in BASE a) ≡ true
+      of None none = by h.space (sym (ap (λ (o : Option PageImage). option_or o (space_now h.space page)) none) ∙ there)
+      of (Some old) on = absurd (some_none (get h.pages.left page) old on alone)
 
   -- pages of the space stay its pages
   pub own_page_still : (q : ℕ) → is_some (space_now (changed h page now).space q) ≡ is_some (space_now h.space q)

@@ -28,6 +28,7 @@ pub record HasCleared {R : Type 0} (old new : MutatorState R) (cleared : ℕ →
   pub marks : (p : ℕ) → marks_of new.pass.1.log p ≡ marks_of old.pass.1.log p
   pub space : new.space ≡ old.space
   pub reader : new.reader ≡ old.reader
+  pub next_name : new.next_name ≡ old.next_name
   pub view : Becomes old.pass new.pass (record old.pass.1 { log = new.pass.1.log; holds = new.pass.1.holds })
 
 -- the mutator gave units back, and nothing else changed
@@ -51,3 +52,8 @@ AreAll told v number images space = (u : ℕ) → holds_of v.holds u ≡ true �
 -- each place of the row that is tagged as a reference and was not written holds nil or a persistent object
 abbrev pub RemembersUnwritten : {R : Type 0} → Told → MutatorState R → Type 0
 RemembersUnwritten told m = (q : ℕ) → slice_index_or m.refs q false ≡ true → was_written m q ≡ false → KnowsWord told m.pass.1 (word_of m.pass.1.log q)
+
+-- the same of pages of two kinds
+abbrev pub AreAllOf : Told → View → ℕ → Images → Images → Option SpaceState → Type 0
+AreAllOf told v number images written space = (u : ℕ) → holds_of v.holds u ≡ true
+    → (is_some (map.get images u) ≡ true) ⊎ ((is_some (map.get written u) ≡ true) ⊎ ((is_some space ≡ true) × (u ≡ space_unit told.pages number)))

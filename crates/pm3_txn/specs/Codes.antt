@@ -9,10 +9,10 @@ use Rattle.pm3_txn.specs.States.{MutatorState, TxnState}
 
 abbrev pub mutator_code : {R : Type 0} → Coded R → Coded (TableId × View) → Coded (MutatorState R)
 mutator_code {R} reader_code pass_code =
-    code_by ((TableId × View) × (ℕ × (R × (List Bool × List Bool))))
-    (coded× pass_code (coded× coded_ℕ (coded× reader_code (coded× (coded_list coded_bool) (coded_list coded_bool)))))
-    (λ m. (m.pass, (m.space, (m.reader, (m.refs, m.wrote)))))
-    (λ p. record { pass = p.0; space = p.1.0; reader = p.1.1.0; refs = p.1.1.1.0; wrote = p.1.1.1.1 }) (λ _. refl)
+    code_by ((TableId × View) × (ℕ × (R × (List Bool × (List Bool × ℕ)))))
+    (coded× pass_code (coded× coded_ℕ (coded× reader_code (coded× (coded_list coded_bool) (coded× (coded_list coded_bool) coded_ℕ)))))
+    (λ m. (m.pass, (m.space, (m.reader, (m.refs, (m.wrote, m.next_name))))))
+    (λ p. record { pass = p.0; space = p.1.0; reader = p.1.1.0; refs = p.1.1.1.0; wrote = p.1.1.1.1.0; next_name = p.1.1.1.1.1 }) (λ _. refl)
 
 abbrev pub txn_code : {R : Type 0} → Coded (TableId × Told) → Coded (MutatorState R) → Coded Holding → Coded (TxnState R)
 txn_code {R} heap_code mutator held =

@@ -41,13 +41,13 @@ use Rattle.pm3_txn.specs.declared.commit_fault.CommitRefusal.TheVariants.{Memory
 use Rattle.pm3_txn.specs.declared.commit_fault.CommitEnd.TheVariants as end
 use Rattle.pm3_txn.specs.declared.values.Turn.{Turn as Turns}
 use Rattle.pm3_txn.specs.Aborting.{HasCleared, was_written}
-use Rattle.pm3_txn.specs.Commits.{HasOnlySeen}
+use Rattle.pm3_txn.specs.CommitParts.{HasOnlySeen}
 use Rattle.pm3_txn.specs.Frontiers.{IsTop}
 use Rattle.pm3_txn.specs.Owners.{IsHolding}
 use Rattle.pm3_txn.specs.Runs.{RunsAfter}
 use Rattle.pm3_txn.specs.States.{MutatorState}
 use Rattle.pm3_txn.specs.Underway.{Belongs, HoldsNothing, IsUnder}
-use Rattle.pm3_txn.specs.Values.{IsTurnOf, TurnState, WasStopped}
+use Rattle.pm3_txn.specs.Values.{IsTurnOf, TurnState, WasStopped, moves_of, pins_of}
 
 -- the pages of an entry that has these images: in order, each with its bytes in a file
 abbrev pub file_items : List Fields → Images → List (ℕ × List ℕ)
@@ -112,6 +112,23 @@ pub record IsEntryFor {D R : Type 0} (catalog : List Fields) (tag : ℕ) (turn :
   pub top : IsTop (λ p. contains_key written p ≡ true) turn.high_page e.high_page
   pub none : (e.pins ≡ 0) × (e.moved ≡ 0)
   pub pages : e.pages.items ≡ file_items catalog written
+
+-- The entry is one of these written images, with this tag. Its next name and its high page are not before those of the turn.
+pub record IsEntryOf {D R : Type 0} (catalog : List Fields) (tag : ℕ) (turn : TurnState D R) (written : Images) (e : Entry) : Type 0 where
+  pub tag_is : e.tag ≡ tag
+  pub names : (turn.next_name ≤ e.next_name) × (e.next_name ≤ 2 ^ 62)
+  pub top : IsTop (λ p. contains_key written p ≡ true) turn.high_page e.high_page
+  pub few : (e.pins < 2 ^ 32) × (e.moved < 2 ^ 32)
+  pub pages : e.pages.items ≡ file_items catalog written
+
+-- the commit has the marks and the counts of an entry, and these images
+pub record IsDoneOf (e : Entry) (written : Images) (d : Done) : Type 0 where
+  pub tag : d.tag ≡ e.tag
+  pub next_name : d.next_name ≡ e.next_name
+  pub high_page : d.high_page ≡ e.high_page
+  pub written_is : d.written ≡ sheets_of written
+  pub pins : pins_of d.pass ≡ e.pins
+  pub moved : moves_of d.pass ≡ e.moved
 
 -- the turn as it is given back after commits, of which some joined the history, and others failed
 pub record MayGive {D R : Type 0} (g : Ghosts D R) (told : Told) (v : View) (turn : TurnState D R) (more failed : List Done) : Type 0 where

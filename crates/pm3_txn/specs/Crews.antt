@@ -13,7 +13,7 @@ use Rattle.pm3_txn.specs.States.{MutatorState}
 use Rattle.pm3_txn.specs.Takes.{with_view}
 
 -- a new mutator: a row of its own, which holds nil references, the space with that number, and this reader; it has seen what its
--- maker had
+-- maker had, and notes no name
 pub record IsFresh {R : Type 0} (maker made : MutatorState R) (reader : R) : Type 0 where
   pub row : ℕ
   pub low : row < 32
@@ -23,6 +23,7 @@ pub record IsFresh {R : Type 0} (maker made : MutatorState R) (reader : R) : Typ
     reader = reader;
     refs = replicate 512 true;
     wrote = replicate 512 false;
+    next_name = 0;
   }
 
 -- The first places of a row hold 0, and all else of the pass is as it was.

@@ -2,7 +2,7 @@
 -- of the values of slots; they stand here since a ghost member may name no proof of its own crate.
 use Rattle.std.specs.Prelude.{ℕ, ◌≡◌, ◌≢◌, ◌==◌, ◌&&◌, ◌||◌, Bool, true, false, cond, nat_lt, List, [], ◌∷◌, ◌++◌, Option, None, Some, is_some, unwrap_or, refl}
 use Rattle.std.specs.Option.{option_or}
-use Rattle.std.specs.FinMap.{get, empty, contains_key}
+use Rattle.std.specs.FinMap.{get, empty}
 use Rattle.std.proofs.Common.{ap, sym, ◌∙◌, subst}
 use Rattle.std.proofs.lemmas.Bool.{false≢true}
 use Rattle.pm3_core.specs.declared.naming.TheConstants.{BASE}
@@ -26,6 +26,7 @@ use Rattle.pm3_table.proofs.Unnamed.{not_written, not_its_space, not_the_space, 
 use Rattle.pm3_txn.specs.declared.values.Value.{Value}
 use Rattle.pm3_txn.specs.declared.values.Value.TheVariants.{Page, Space, Turn}
 use Rattle.pm3_txn.specs.Knowing.{is_in_use}
+use Rattle.pm3_txn.specs.OwnStarts.{starts_in}
 use Rattle.pm3_txn.specs.Values.{IsPageOf, IsSpaceOf, after_pass, last_known, space_left, space_use}
 use Rattle.pm3_txn.specs.Slots.{stands_for}
 
@@ -94,7 +95,7 @@ space_framed told h e u s free is =
         was.1,
         was.2,
         form_for_more told.opening.catalog (space_use told h s.images) (space_use told (h ++ e ∷ []) s.images)
-            (λ a. or_rises (is_in_use told h a) (is_memory_reference BASE told.pages a && contains_key s.images (page_in BASE a)) (is_in_use told (h ++ e ∷ []) a) (use_on told h e a))
+            (λ a. or_rises (is_in_use told h a) (is_memory_reference BASE told.pages a && starts_in s.images a) (is_in_use told (h ++ e ∷ []) a) (use_on told h e a))
             image.page image.sheet was.3,
       ));
       free = is.free;

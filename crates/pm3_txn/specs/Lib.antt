@@ -1,5 +1,6 @@
 pub mod States
 pub mod Codes
+pub mod OwnStarts
 pub mod Values
 pub mod Slots
 pub mod Framed
@@ -33,9 +34,16 @@ pub mod RootAccess
 pub mod Describing
 pub mod Aborting
 pub mod ByteRuns
+pub mod CommitParts
 pub mod Commits
 pub mod Committing
 pub mod Making
 pub mod Spaces
 pub mod Closing
 pub mod PassCommits
+pub mod Pinning
+pub mod PassSteps
+pub mod PassEnds
+pub mod CarriedPass
+pub mod PassEnding
+pub mod SpaceCommits

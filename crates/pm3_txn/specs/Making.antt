@@ -1,5 +1,5 @@
 -- What making an object does, and why it is refused.
-use Rattle.std.specs.Prelude.{ℕ, ◌≡◌, ◌≢◌, ◌⊎◌, ◌+◌, ◌^◌, ◌<◌, ◌≤◌, ◌++◌, true, false, if◌then◌else◌, List, [], ◌∷◌, length, None, is_some, slice_get}
+use Rattle.std.specs.Prelude.{ℕ, ◌≡◌, ◌≢◌, ◌⊎◌, ◌+◌, ◌^◌, ◌<◌, ◌≤◌, ◌++◌, max, true, false, if◌then◌else◌, List, [], ◌∷◌, All, length, None, is_some, slice_get}
 use Rattle.std.specs.FinMap.{get}
 use Rattle.std.specs.FinSet as set
 use Rattle.pm3_core.specs.declared.naming.TheConstants.{BASE}
@@ -100,9 +100,17 @@ pub record HasGrownSpace {R : Type 0} (old new : TxnState R) : Type 0 where
   pub names : (n : ℕ) → IsUsableName (told_in old) (view_in old) old.held n → IsUsableName (told_in new) (view_in new) new.held n
   pub goes_on : Advances old new nothing_more
 
--- so many names and pages were drawn
-abbrev pub Drew : {R : Type 0} → TxnState R → TxnState R → ℕ → ℕ → Type 0
-Drew old new names pages = ((view_in new).drew_pages ≡ (view_in old).drew_pages + pages) × ((view_in new).drew_names ≡ (view_in old).drew_names + names)
+-- the greatest of a first number and one above each of these names
+abbrev pub next_above : ℕ → List ℕ → ℕ
+next_above first [] = first
+next_above first (n ∷ ns) = max (next_above first ns) (n + 1)
+
+-- these names were drawn, the last of them first, and so many pages; and each of the names is noted
+pub record Drew {R : Type 0} (old new : TxnState R) (names : List ℕ) (pages : ℕ) : Type 0 where
+  pub pages_drawn : (view_in new).drew_pages ≡ (view_in old).drew_pages + pages
+  pub names_drawn : (view_in new).drew_names ≡ (view_in old).drew_names + length names
+  pub names_are : (view_in new).names ≡ names ++ (view_in old).names
+  pub noted : new.mutator.next_name ≡ next_above old.mutator.next_name names
 
 -- an object of so many words does not fit on the space's current page, and the space has no free page
 pub record HasNoRoom {R : Type 0} (t : TxnState R) (size : ℕ) : Type 0 where
@@ -131,20 +139,23 @@ pub record HasMade {R : Type 0} (old new : TxnState R) (type tail j : ℕ) : Typ
   pub drawn : ℕ
   pub taken : HasTakenSpace old mid
   pub grown : HasGrownSpace mid ready
-  pub drew : Drew mid ready 1 drawn
+  pub drew : Drew mid ready (name ∷ []) drawn
   pub why : (drawn ≡ 0) ⊎ ((drawn ≡ 1) × HasNoRoom mid (size_by (slice_get (told_in old).opening.catalog type) tail))
   pub fresh : HasNoName (told_in mid) mid.held name × ((told_in mid).next_name ≤ name) × (some_has makes (view_in mid).seen name ≡ false)
   pub object : HasNewObject ready made type tail name address
   pub placed : IsPlaced made new j address true
   pub goes_on : Advances old new (λ st ops. ops ++ (operation.New name type tail, 0) ∷ [])
 
--- Nothing was made, though the space may have been taken, and names and pages drawn.
-pub record HasNotMade {R : Type 0} (old new : TxnState R) (names : ℕ) : Type 0 where
+-- Nothing was made, though the space may have been taken, and so many names and a page drawn.
+pub record HasNotMade {R : Type 0} (old new : TxnState R) (count : ℕ) : Type 0 where
   pub mid : TxnState R
+  pub names : List ℕ
   pub drawn : ℕ
   pub taken : HasTakenSpace old mid
   pub grown : HasGrownSpace mid new
+  pub counted : length names ≡ count
   pub drew : Drew mid new names drawn × (drawn ≤ 1)
+  pub usable : All (λ n. IsUsableName (told_in new) (view_in new) new.held n) names
   pub goes_on : Advances old new nothing_more
 
 -- Why no object was made: the space was refused; the name counter is at its limit; no page has room, and the page counter is at its

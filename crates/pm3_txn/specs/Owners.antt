@@ -4,7 +4,7 @@ use Rattle.std.specs.FinMap as map
 use Rattle.std.specs.FinMap.{get}
 use Rattle.std.specs.FinSet as set
 use Rattle.pm3_core.specs.declared.naming.TheConstants.{BASE}
-use Rattle.pm3_types.specs.Layout.{PageImage, page_in}
+use Rattle.pm3_types.specs.Layout.{PageImage}
 use Rattle.pm3_types.specs.PageForm.{HasForm, is_memory_reference}
 use Rattle.pm3_types.specs.Fields.{Fields}
 use Rattle.pm3_types.specs.Graph.{Part, PartOf}
@@ -30,16 +30,16 @@ use Rattle.pm3_txn.specs.Knowing.{KnowsWord, is_in_use, state_seen}
 use Rattle.pm3_txn.specs.Loads.{IsPersistent}
 use Rattle.pm3_txn.specs.Values as values
 use Rattle.pm3_txn.specs.Values.{IsPageOf}
-use Rattle.pm3_txn.specs.Works.{Works, found_book, left_book, is_own_page}
+use Rattle.pm3_txn.specs.Works.{Works, found_book, left_book, is_own_start}
 
 -- From whatever the files opened to, and whatever the transaction had done before a call, it has done this much after it.
 abbrev pub WorksOn : Told → View → Holding → View → Holding → (State → List (Op × ℕ) → List (Op × ℕ)) → Type 0
 WorksOn told v h v' h' more = (st : State) → Opens BASE told.pages told.opening st → (ops : List (Op × ℕ))
     → Works told.opening.catalog told.pages (state_seen told v st) h ops → Works told.opening.catalog told.pages (state_seen told v' st) h' (more st ops)
 
--- the word may be a reference: to a page in use, or to one of the space that is held
+-- the word may be a reference: to a page in use, or to where an object begins on a page of the space that is held
 abbrev pub own_use : Told → View → Holding → ℕ → Bool
-own_use told v h a = is_in_use told v.seen a || (is_memory_reference BASE told.pages a && is_own_page h (page_in BASE a))
+own_use told v h a = is_in_use told v.seen a || (is_memory_reference BASE told.pages a && is_own_start h a)
 
 -- The view holds the space, which was found with its last images. Its pages are those with an image or free ones, as the view
 -- says, and each is in no other space and not persistent. Pages drawn since have an image now and had none.
@@ -81,6 +81,10 @@ pub record IsHolding (told : Told) (v : View) (number : ℕ) (h : Holding) : Typ
       → (get (book_of BASE (space_found h.space)) a ≡ Some n) ⊎ (is_in n v.names ≡ true)
   pub works : (st : State) → Opens BASE told.pages told.opening st
       → (ops : List (Op × ℕ)) × Works told.opening.catalog told.pages (state_seen told v st) h ops
+
+-- each object of the space that is held was found, or has a name below this one
+abbrev pub HasNamesBelow : ℕ → Holding → Type 0
+HasNamesBelow next h = (a n : ℕ) → get (book_of BASE (space_left h.space)) a ≡ Some n → (get (book_of BASE (space_found h.space)) a ≡ Some n) ⊎ (n < next)
 
 -- the word may be a reference, and an object of the transaction's book begins there; the first is known also where the files open
 -- to nothing

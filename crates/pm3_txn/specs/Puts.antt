@@ -21,6 +21,7 @@ pub record HasPut {R : Type 0} (old new : MutatorState R) (place word : ℕ) (is
   pub wrote : new.wrote ≡ slice_set old.wrote place true
   pub space : new.space ≡ old.space
   pub reader : new.reader ≡ old.reader
+  pub next_name : new.next_name ≡ old.next_name
   pub view : Becomes old.pass new.pass (record old.pass.1 { log = new.pass.1.log; refusals = new.pass.1.refusals })
 
 -- the place stands, or names no page

@@ -1,5 +1,5 @@
 -- What a transaction does to the space that it holds.
-use Rattle.std.specs.Prelude.{ℕ, ◌≡◌, ◌⊎◌, ◌^◌, ◌≤◌, Bool, true, false, ◌∷◌, Option}
+use Rattle.std.specs.Prelude.{ℕ, ◌≡◌, ◌⊎◌, ◌^◌, ◌≤◌, Bool, true, false, [], ◌∷◌, Option}
 use Rattle.std.specs.FinSet as set
 use Rattle.pm3_access.specs.Holding.{HeldSpaceState, FreeIs}
 use Rattle.pm3_access.specs.Making.{current_image, has_room_for}
@@ -12,10 +12,10 @@ use Rattle.pm3_txn.specs.DrawnLaws.{HasNoName}
 use Rattle.pm3_txn.specs.Making.{Drew, HasGrownSpace, HasNewObject, HasNoRoom, IsUsableName}
 use Rattle.pm3_txn.specs.States.{TxnState, told_in, view_in}
 
--- a name was drawn, and nothing else
+-- a name was drawn and noted, and nothing else
 pub record HasDrawnName {R : Type 0} (old new : TxnState R) (name : ℕ) : Type 0 where
   pub grown : HasGrownSpace old new
-  pub drew : Drew old new 1 0
+  pub drew : Drew old new (name ∷ []) 0
   pub filled : (view_in new).filled ≡ (view_in old).filled
   pub usable : IsUsableName (told_in new) (view_in new) new.held name
   pub held : new.held ≡ old.held
@@ -25,7 +25,7 @@ pub record HasDrawnName {R : Type 0} (old new : TxnState R) (name : ℕ) : Type 
 pub record IsNameRefusal {R : Type 0} (old new : TxnState R) (fault : AccessFault) : Type 0 where
   pub full : fault ≡ Full Names (2 ^ 62)
   pub grown : HasGrownSpace old new
-  pub drew : Drew old new 0 0
+  pub drew : Drew old new [] 0
   pub filled : (view_in new).filled ≡ 1 ∷ (view_in old).filled
 
 -- the space has a free page, or none
@@ -38,14 +38,14 @@ HasNone s = FreeIs s (λ free. (p : ℕ) → set.contains free p ≡ false)
 -- a page was drawn, and is a free one of the space
 pub record HasDrawnPage {R : Type 0} (old new : TxnState R) : Type 0 where
   pub grown : HasGrownSpace old new
-  pub drew : Drew old new 0 1
+  pub drew : Drew old new [] 1
   pub free : HasFree new.held.space
 
 -- none was left: the space is as it was
 pub record IsPageShortage {R : Type 0} (old new : TxnState R) (fault : AccessFault) : Type 0 where
   pub full : fault ≡ Full Pages (told_in old).pages
   pub grown : HasGrownSpace old new
-  pub drew : Drew old new 0 0
+  pub drew : Drew old new [] 0
   pub filled : (view_in new).filled ≡ 0 ∷ (view_in old).filled
   pub current : current_image new.held.space ≡ current_image old.held.space
   pub free : HasNone old.held.space → HasNone new.held.space
@@ -53,7 +53,7 @@ pub record IsPageShortage {R : Type 0} (old new : TxnState R) (fault : AccessFau
 -- the least free page is the one that objects are placed on, without any
 pub record HasOpenedPage {R : Type 0} (old new : TxnState R) : Type 0 where
   pub grown : HasGrownSpace old new
-  pub drew : Drew old new 0 0
+  pub drew : Drew old new [] 0
   pub room : (size : ℕ) → size ≤ 510 → has_room_for (current_image new.held.space) size ≡ true
 
 -- there is no free page
@@ -70,7 +70,7 @@ HasTriedToOpen old new false = HasNoFree old new
 pub record HasMadeRoom {R : Type 0} (old new : TxnState R) : Type 0 where
   pub drawn : ℕ
   pub grown : HasGrownSpace old new
-  pub drew : Drew old new 0 drawn
+  pub drew : Drew old new [] drawn
   pub why : (drawn ≡ 0) ⊎ ((drawn ≡ 1) × HasNone old.held.space)
   pub room : (size : ℕ) → size ≤ 510 → has_room_for (current_image new.held.space) size ≡ true
 
@@ -79,13 +79,13 @@ pub record IsShortOfMemory {R : Type 0} (old new : TxnState R) (fault : AccessFa
   pub drawn : ℕ
   pub memory : fault ≡ Memory
   pub grown : HasGrownSpace old new
-  pub drew : Drew old new 0 drawn × (drawn ≤ 1)
+  pub drew : Drew old new [] drawn × (drawn ≤ 1)
 
 -- no page has room for an object that does not fit on the current one, and none was left
 pub record IsOutOfPages {R : Type 0} (old new : TxnState R) (size : ℕ) (fault : AccessFault) : Type 0 where
   pub full : fault ≡ Full Pages (told_in old).pages
   pub grown : HasGrownSpace old new
-  pub drew : Drew old new 0 0
+  pub drew : Drew old new [] 0
   pub filled : (view_in new).filled ≡ 0 ∷ (view_in old).filled
   pub none : has_room_for (current_image old.held.space) size ≡ false → HasNoRoom new size
 
@@ -94,6 +94,6 @@ pub record HasPlacedObject {R : Type 0} (old new : TxnState R) (type tail size n
   pub ready : TxnState R
   pub drawn : ℕ
   pub grown : HasGrownSpace old ready
-  pub drew : Drew old ready 0 drawn
+  pub drew : Drew old ready [] drawn
   pub why : (drawn ≡ 0) ⊎ ((drawn ≡ 1) × HasNoRoom old size)
   pub object : HasNewObject ready new type tail name a

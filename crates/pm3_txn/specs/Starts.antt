@@ -26,10 +26,10 @@ pub record IsStarted {D R : Type 0} (g : Ghosts D R) (opened : Opened D R) (told
   pub opening : told.opening ≡ origin_of g opened
   pub frontier : IsTop (λ p. images_refer opened.catalog (sheets_of opened.images.images) p ≡ true) opened.marks.high_page told.frontier
 
--- the first mutator of a table: it has seen so many faults, and has an empty row
+-- the first mutator of a table: it has seen so many faults, has an empty row, and notes no name
 abbrev pub first_mutator : {R : Type 0} → TableId → ℕ → R → MutatorState R
 first_mutator table faults reader =
-    record { pass = (table, first_view faults); space = 0; reader = reader; refs = replicate 512 true; wrote = replicate 512 false }
+    record { pass = (table, first_view faults); space = 0; reader = reader; refs = replicate 512 true; wrote = replicate 512 false; next_name = 0 }
 
 -- the values with which the units of a table start: the opened images, spaces without pages, and the turn's
 abbrev pub blank_space : ℕ → SpaceState

@@ -1,5 +1,5 @@
 -- What the calls on units make of a mutator.
-use Rattle.std.specs.Prelude.{ℕ, ◌≡◌, Option}
+use Rattle.std.specs.Prelude.{ℕ, ◌≡◌, ◌+◌, max, Option}
 use Rattle.pm3_disk.specs.declared.outside.Disk.{Ghosts}
 use Rattle.pm3_table.specs.declared.view.Told.{Told}
 use Rattle.pm3_table.specs.declared.view.View.{View}
@@ -11,6 +11,10 @@ use Rattle.pm3_txn.specs.States.{MutatorState}
 -- the mutator with another view
 abbrev pub with_view : {R : Type 0} → MutatorState R → View → MutatorState R
 with_view m view = record m { pass = (m.pass.0, view) }
+
+-- and once it has noted a name that it drew
+abbrev pub with_name : {R : Type 0} → MutatorState R → View → ℕ → MutatorState R
+with_name m view name = record m { pass = (m.pass.0, view); next_name = max m.next_name (name + 1) }
 
 -- it has taken the unit and what was in its slot, and all but its view is as it was
 pub record HasTaken {D R : Type 0} (g : Ghosts D R) (told : Told) (old new : MutatorState R) (unit : ℕ) (slot : Option (Value D R)) : Type 0 where

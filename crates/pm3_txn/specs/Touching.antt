@@ -32,10 +32,10 @@ pub record IsSameButHeld {R : Type 0} (old new : TxnState R) : Type 0 where
   pub mine : (view_in new).mine ≡ (view_in old).mine
   pub faults : (view_in new).faults ≡ (view_in old).faults
 
--- no page and no name was drawn, nor tried to be
+-- no page and no name was drawn, nor tried to be; and none is noted that wasn't
 abbrev pub DrewNothing : {R : Type 0} → TxnState R → TxnState R → Type 0
 DrewNothing old new = ((view_in new).drew_pages ≡ (view_in old).drew_pages) × ((view_in new).drew_names ≡ (view_in old).drew_names)
-    × ((view_in new).filled ≡ (view_in old).filled)
+    × ((view_in new).filled ≡ (view_in old).filled) × (new.mutator.next_name ≡ old.mutator.next_name)
 
 -- The page is held. Where it wasn't before, it was taken, and nothing else was.
 pub record HasTouched {R : Type 0} (old new : TxnState R) (page : ℕ) (more : State → List (Op × ℕ) → List (Op × ℕ)) : Type 0 where

@@ -17,7 +17,7 @@ use Rattle.pm3_table.specs.Holds.{holds_of}
 use Rattle.pm3_table.specs.Telling.{Lawful}
 use Rattle.pm3_txn.specs.Knowing.{Remembers, is_in_use}
 use Rattle.pm3_txn.specs.Loads.{IsPersistent}
-use Rattle.pm3_txn.specs.Owners.{IsHolding, RemembersHere}
+use Rattle.pm3_txn.specs.Owners.{HasNamesBelow, IsHolding, RemembersHere}
 use Rattle.pm3_txn.specs.Runs.{RunsAfter}
 use Rattle.pm3_txn.specs.States.{MutatorState, TxnState, told_in, view_in}
 use Rattle.pm3_txn.specs.Values.{IsPageOf}
@@ -58,3 +58,4 @@ pub record IsUnderway {R : Type 0} (content : R → Option (List ℕ)) (t : TxnS
   pub mutator : IsMutatorOf content t.heap t.mutator
   pub known : RemembersHere (told_in t) (view_in t) t.held t.mutator.refs t.mutator.wrote
   pub holding : IsHolding (told_in t) (view_in t) t.mutator.space t.held
+  pub named : HasNamesBelow t.mutator.next_name t.held

@@ -9,7 +9,7 @@ use Rattle.pm3_disk.specs.Faults.{Rose}
 use Rattle.pm3_disk.specs.declared.outside.Disk.{Ghosts}
 use Rattle.pm3_types.specs.Bytes.{piece}
 use Rattle.pm3_types.specs.Fields.{Fields}
-use Rattle.pm3_types.specs.Layout.{PageImage, Sheet, page_in}
+use Rattle.pm3_types.specs.Layout.{PageImage, Sheet}
 use Rattle.pm3_types.specs.PageForm.{HasForm, is_memory_reference}
 use Rattle.pm3_types.specs.Shown.{Images}
 use Rattle.pm3_page.specs.PageMap as page_map
@@ -35,6 +35,7 @@ use Rattle.pm3_table.specs.Entries.{writes}
 use Rattle.pm3_table.specs.Histories.{some_has}
 use Rattle.pm3_table.specs.Words.{space_unit, turn_unit}
 use Rattle.pm3_txn.specs.Knowing.{is_in_use}
+use Rattle.pm3_txn.specs.OwnStarts.{starts_in}
 
 -- the last image of a page that a commit wrote or that was opened
 abbrev pub last_known : Origin → List Done → ℕ → Option Sheet
@@ -61,9 +62,10 @@ pub record IsPageOf (told : Told) (h : List Done) (u : ℕ) (image : PageImage) 
   pub last : (st : State) → Opens BASE told.pages told.opening st
       → map.get (now told.opening.catalog BASE st h).pages u ≡ Some image.sheet
 
--- After a history the word may be a reference on a page of a space with these images: to a page in use, or to one of the space.
+-- After a history the word may be a reference on a page of a space with these images: to a page in use, or to where an object of the
+-- space begins.
 abbrev pub space_use : Told → List Done → page_map.Images → ℕ → Bool
-space_use told h images a = is_in_use told h a || (is_memory_reference BASE told.pages a && map.contains_key images (page_in BASE a))
+space_use told h images a = is_in_use told h a || (is_memory_reference BASE told.pages a && starts_in images a)
 
 -- A space's value: its images are those of the space's last pass, or none, and have the form; no free page has an image.
 pub record IsSpaceOf (told : Told) (h : List Done) (u : ℕ) (s : SpaceState) : Type 0 where

@@ -3,7 +3,7 @@ use Rattle.std.specs.Prelude.{ℕ, ◌≡◌, ◌⊎◌, ◌≤◌, ◌||◌, �
 use Rattle.std.specs.FinMap.{get}
 use Rattle.pm3_core.specs.declared.naming.TheConstants.{BASE}
 use Rattle.pm3_types.specs.Fields.{Fields}
-use Rattle.pm3_types.specs.Layout.{Sheet, page_in}
+use Rattle.pm3_types.specs.Layout.{Sheet, page_in, word_in}
 use Rattle.pm3_types.specs.PageForm.{is_memory_reference}
 use Rattle.pm3_types.specs.Shown.{Book, Images, FitsImages}
 use Rattle.pm3_graph.specs.declared.operations.Op.{Op}
@@ -19,6 +19,7 @@ use Rattle.pm3_history.specs.Named.{book_of}
 use Rattle.pm3_history.specs.Persistent.{persistent_book}
 use Rattle.pm3_history.specs.Spaces.{AreOfSpace}
 use Rattle.pm3_history.specs.State.{State, all_images}
+use Rattle.pm3_txn.specs.OwnStarts.{starts_on}
 
 -- the objects of a space, by the names in their headers, over those of the persistent ones
 abbrev pub book_with : State → Images → Book
@@ -34,6 +35,10 @@ found_book st h = book_with st (space_found h.space)
 -- the page is one of the space that is held
 abbrev pub is_own_page : Holding → ℕ → Bool
 is_own_page h page = is_some (space_now h.space page)
+
+-- an object begins at the address, on a page of the space that is held
+abbrev pub is_own_start : Holding → ℕ → Bool
+is_own_start h a = starts_on (space_now h.space (page_in BASE a)) (word_in BASE a)
 
 -- an object of the space that is held begins at the address
 abbrev pub is_own_object : Holding → ℕ → Bool

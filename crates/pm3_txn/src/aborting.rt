@@ -2,7 +2,7 @@
 ghost use Rattle.std.specs.Prelude.{◌≡◌, ℕ, ◌<◌, true, false, slice_index_or};
 ghost use Rattle.std.specs.FinMap.{contains_key};
 ghost use Rattle.pm3_table.specs.Holds.{holds_of};
-ghost use Rattle.pm3_txn.specs.Aborting.{AreAll, AreOwed, HasCleared, HasOnlyGiven, IsSpaceOwed, RemembersUnwritten, was_written};
+ghost use Rattle.pm3_txn.specs.Aborting.{AreAll, AreAllOf, AreOwed, HasCleared, HasOnlyGiven, IsSpaceOwed, RemembersUnwritten, was_written};
 ghost use Rattle.pm3_txn.specs.Underway.{Belongs, HoldsNothing, IsMutatorOf};
 
 use crate::heap::Heap;
@@ -55,6 +55,37 @@ pub(crate) fn restored<D: Disk>(heap: &Heap<D>, mutator: Mutator<D>, undone: Und
     let mut mutator = mutator;
     clear_written(&mut mutator, heap);
     give_all(&mut mutator, heap, pages);
+    let Some(space) = space else {
+        return mutator;
+    };
+    mutator.give_space(heap, space);
+    mutator
+}
+
+/// Gives all that is held back as it is, pages and a space.
+pub(crate) fn give_undone<D: Disk>(
+    heap: &Heap<D>,
+    mutator: Mutator<D>,
+    undone: Undone,
+) -> Mutator<D>
+    requires of { Belongs D.Reader.content heap.now mutator }
+    requires pages { AreOwed heap.now.1 mutator.pass.1 undone.pages.images }
+    requires written { AreOwed heap.now.1 mutator.pass.1 undone.written.images }
+    requires apart { (u : ℕ) → contains_key undone.written.images u ≡ true → contains_key undone.pages.images u ≡ false }
+    requires space { IsSpaceOwed heap.now.1 mutator.pass.1 mutator.space undone.space }
+    requires all { AreAllOf heap.now.1 mutator.pass.1 mutator.space undone.pages.images undone.written.images undone.space }
+    ensures given { HasOnlyGiven mutator result }
+    ensures bare { HoldsNothing result }
+    ensures kept { Belongs D.Reader.content heap.now result }
+{
+    let Undone {
+        pages,
+        written,
+        space,
+    } = undone;
+    let mut mutator = mutator;
+    give_all(&mut mutator, heap, pages);
+    give_all(&mut mutator, heap, written);
     let Some(space) = space else {
         return mutator;
     };

@@ -37,6 +37,7 @@ impl<D: Disk> Heap<D> {
             reader,
             refs,
             wrote,
+            next_name,
             alloc,
         } = last;
         match self.close_table(alloc, pass) {
@@ -55,6 +56,7 @@ impl<D: Disk> Heap<D> {
                     reader,
                     refs,
                     wrote,
+                    next_name,
                     alloc,
                 };
                 Err(HeapCloseFault::NotAll {

@@ -10,6 +10,7 @@ use crate::concluding::{concluded, failed};
 use crate::heap::Heap;
 use crate::mutator::Mutator;
 use crate::recording::entry_for;
+use crate::space_commit::commit_space;
 use crate::transaction::Txn;
 use crate::values::Turn;
 use pm3_access::Held;
@@ -20,9 +21,14 @@ impl<'h, D: Disk> Txn<'h, D> {
     /// Ends the transaction, and makes what it wrote last: from the receipt on each opening of the store finds it. Its
     /// operations then happened at once, behind those of all commits before.
     ///
-    /// A refusal leaves the transaction as it was, and it may be tried again: `Busy` while another mutator commits. Where
-    /// the commit fails its transaction has ended as by an abort. After `JournalFault` nobody knows whether the record is
-    /// in the journal, and no further commit is taken.
+    /// Where the transaction holds its space, what a root reaches becomes persistent, and what else a word of a row may refer to
+    /// stays in the space (the mostly-copying pass of Bartlett). The receipt tells how many pages such words pinned, and how many
+    /// objects moved.
+    ///
+    /// A refusal leaves the transaction as it was, but for more free pages of its space, and it may be tried again: `Busy` while
+    /// another mutator commits, `Full` where the store has too few pages left, `Later` where a reference of the row leads to an
+    /// object that would stay in the space: clear the place. Where the commit fails its transaction has ended as by an abort. After
+    /// `JournalFault` nobody knows whether the record is in the journal, and no further commit is taken.
     pub fn commit(self) -> Result<(Mutator<D>, Receipt), CommitFault<'h, D>>
         ensures committed { IfOk result (λ done. HasCommitted self.entry done.0 done.1) }
         ensures bare { IfOk result (λ done. HoldsNothing done.0) }
@@ -30,12 +36,6 @@ impl<'h, D: Disk> Txn<'h, D> {
         ensures fault { IfErr result (λ fault. IsCommitFault D.Reader.content self.entry fault) }
         ensures heap { IfErr result (IsOverHeap self.entry.heap) }
     {
-        if self.held.has_space() {
-            return Err(CommitFault::Refused {
-                cause: CommitRefusal::Later,
-                txn: self,
-            });
-        }
         let Txn {
             heap,
             mutator,
@@ -45,7 +45,13 @@ impl<'h, D: Disk> Txn<'h, D> {
         heap.page_count();
         let mut mutator = mutator;
         match mutator.take_turn(heap) {
-            Ok(turn) => commit_with(heap, mutator, turn, held, tag),
+            Ok(turn) => {
+                if held.has_space() {
+                    commit_space(heap, mutator, turn, held, tag)
+                } else {
+                    commit_with(heap, mutator, turn, held, tag)
+                }
+            }
             Err(busy) => Err(CommitFault::Refused {
                 cause: CommitRefusal::Busy {
                     unit: busy.unit,

@@ -12,14 +12,14 @@ pub enum CommitRefusal {
     /// The turn's word showed another holder.
     #[error("another mutator commits")]
     Busy { unit: Unit, word: u64 },
-    /// A limit was reached.
+    /// The pass wants more pages than the store has left.
     #[error("a limit of {limit} was reached")]
     Full { what: Limit, limit: u64 },
     /// There is no memory.
     #[error("there is no memory")]
     Memory,
-    /// The transaction holds its space, for which there is no pass yet.
-    #[error("a transaction that holds its space does not commit yet")]
+    /// A reference of the row leads to a page of the space that would stay in it.
+    #[error("a place of the row refers to an object that would stay in the space")]
     Later,
 }
 

@@ -54,6 +54,7 @@ impl<D: Disk> Mutator<D> {
                     reader,
                     refs,
                     wrote,
+                    next_name: 0,
                     alloc,
                 })
             }
@@ -76,6 +77,7 @@ impl<D: Disk> Mutator<D> {
             reader,
             refs: _,
             wrote: _,
+            next_name: _,
             alloc: _,
         } = other;
         end_pass(&heap.shared, &mut self.pass, pass);

@@ -62,6 +62,16 @@ mod concluding;
 mod recording;
 mod turns;
 
+// The commit of a transaction that holds its space: what its pass needs, the pass, and the end.
+mod carrying;
+mod ending;
+mod fresh;
+mod passing;
+mod pinning;
+mod prepared;
+mod settling;
+mod space_commit;
+
 // Laws of transactions as values.
 mod laws;
 

@@ -17,7 +17,7 @@ impl<D: Disk> Txn<'_, D> {
     /// commit finds that a root reaches it.
     ///
     /// Busy where another mutator has the space. Full where the names are used up, or where no page of the space has room, none is free
-    /// and the store has no more. A refused make may have used up a name.
+    /// and the store has no more. A refused make may have used up a name, which is noted then.
     pub fn make(&mut self, ty: TypeNo, tail: u32, j: usize) -> Result<(), AccessFault>
         requires low { j < 512 }
         requires may { MayMake (told_in self.old).opening.catalog ty tail }
@@ -47,6 +47,7 @@ impl<D: Disk> Txn<'_, D> {
     fn place_new(&mut self, ty: TypeNo, tail: u32, name: u64) -> Result<u64, AccessFault>
         requires may { MayMake (told_in self.old).opening.catalog ty tail }
         requires name { IsUsableName (told_in self.old) (view_in self.old) self.old.held name }
+        requires noted { name < self.old.mutator.next_name }
         requires space { is_some self.old.held.space ≡ true }
         ensures heap { self.new.heap ≡ self.old.heap }
         ensures placed { IfOk result (λ at. HasPlacedObject self.old self.new ty tail (size_by (slice_get (told_in self.old).opening.catalog ty) tail) name at) }
@@ -68,6 +69,7 @@ impl<D: Disk> Txn<'_, D> {
     fn place_here(&mut self, ty: TypeNo, tail: u32, name: u64) -> Option<u64>
         requires may { MayMake (told_in self.old).opening.catalog ty tail }
         requires name { IsUsableName (told_in self.old) (view_in self.old) self.old.held name }
+        requires noted { name < self.old.mutator.next_name }
         requires space { is_some self.old.held.space ≡ true }
         ensures heap { self.new.heap ≡ self.old.heap }
         ensures placed { MatchOption result ((self.new ≡ self.old) × (has_room_for (current_image self.old.held.space) (size_by (slice_get (told_in self.old).opening.catalog ty) tail) ≡ false)) (λ at. HasNewObject self.old self.new ty tail name at) }

@@ -15,8 +15,8 @@ pub enum Tag {
     Number,
 }
 
-/// The token of one mutator of a heap: its pass, the number of its space, its reader, and what it notes of each place of its
-/// row. Every call needs its heap.
+/// The token of one mutator of a heap: its pass, the number of its space, its reader, what it notes of each place of its row, and
+/// the next name after those that its transaction drew. Every call needs its heap.
 #[derive(Drop)]
 pub struct Mutator<D: Disk> {
     pub(crate) pass: Pass<Value<D>>,
@@ -26,11 +26,14 @@ pub struct Mutator<D: Disk> {
     pub(crate) refs: Vec<bool>,
     /// For each place, whether it was written since the transaction began.
     pub(crate) wrote: Vec<bool>,
+    /// One above the greatest name that the transaction drew, or 0 where it drew none: its commit has to record a next name that
+    /// is no lower, also where no object was made under it.
+    pub(crate) next_name: u64,
     pub(crate) alloc: Global,
 }
 
 impl<D: Disk> Model for Mutator<D> {
-    ghost use Rattle.std.specs.Prelude.{◌≡◌, length};
+    ghost use Rattle.std.specs.Prelude.{◌≡◌, ◌≤◌, ◌^◌, length};
     ghost use Rattle.std.specs.Coded.{codes};
     ghost use Rattle.atomic_table.specs.Seated.{table_id_coded};
     ghost use Rattle.pm3_history.specs.Entry.{done_code};
@@ -41,9 +44,9 @@ impl<D: Disk> Model for Mutator<D> {
 
     ghost coded = { mutator_code D.Reader.code (Prim.hlevel (codes, table_id_coded, done_code)) };
 
-    ghost view = { λ m. record { pass = m.pass; space = m.space; reader = m.reader; refs = m.refs.items; wrote = m.wrote.items } };
+    ghost view = { λ m. record { pass = m.pass; space = m.space; reader = m.reader; refs = m.refs.items; wrote = m.wrote.items; next_name = m.next_name } };
 
-    ghost invariant = { λ m. (length m.refs.items ≡ 512) × (length m.wrote.items ≡ 512) };
+    ghost invariant = { λ m. (length m.refs.items ≡ 512) × (length m.wrote.items ≡ 512) × (m.next_name ≤ 2 ^ 62) };
 }
 
 impl<D: Disk> Mutator<D> {
@@ -55,12 +58,13 @@ impl<D: Disk> Mutator<D> {
         if self.refs[i] { Tag::Ref } else { Tag::Number }
     }
 
-    /// The mutator as a transaction begins, which has written no place.
+    /// The mutator as a transaction begins, which has written no place and drawn no name.
     pub(crate) fn unwritten(self) -> Mutator<D>
-        ensures { result ≡ record self { wrote = replicate 512 false } }
+        ensures { result ≡ record self { wrote = replicate 512 false; next_name = 0 } }
     {
         let mut mutator = self;
         mutator.wrote.fill(false);
+        mutator.next_name = 0;
         mutator
     }
 

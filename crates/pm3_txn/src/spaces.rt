@@ -3,12 +3,13 @@ ghost use Rattle.std.specs.Prelude.{◌≡◌, ◌⊎◌, ℕ, ◌^◌, ◌<◌,
 ghost use Rattle.pm3_table.specs.declared.unit.Limit.TheVariants.{Names, Pages};
 ghost use Rattle.pm3_table.specs.Holds.{holds_of};
 ghost use Rattle.pm3_table.specs.Ops.{drew_name, drew_page, saw_full, settled_in};
+ghost use Rattle.pm3_table.specs.Settles.{unmark_log};
 ghost use Rattle.pm3_table.specs.Telling.{IsNewName, IsNewPage};
 ghost use Rattle.pm3_table.specs.Words.{space_unit};
 ghost use Rattle.pm3_txn.specs.declared.faults.AccessFault.TheVariants.{Memory};
 ghost use Rattle.pm3_txn.specs.Making.{HasTakenSpace, IsSpaceRefusal};
 ghost use Rattle.pm3_txn.specs.Spaces.{HasDrawnName, HasDrawnPage, HasMadeRoom, HasTriedToOpen, IsNameRefusal, IsOutOfPages, IsPageShortage, IsShortOfMemory};
-ghost use Rattle.pm3_txn.specs.Takes.{with_view};
+ghost use Rattle.pm3_txn.specs.Takes.{with_name, with_view};
 ghost use Rattle.pm3_txn.specs.Underway.{IsMutatorOf};
 
 use crate::faults::AccessFault;
@@ -21,15 +22,18 @@ use pm3_page::Image;
 use pm3_table::Full;
 
 impl<D: Disk> Mutator<D> {
-    /// Draws a name that no one else has drawn.
+    /// Draws a name that no one else has drawn, and notes it: whatever becomes of the call that wants it, it is used up.
     fn draw_name(&mut self, heap: &Heap<D>) -> Result<u64, Full>
         requires of { IsMutatorOf D.Reader.content heap.now self.old }
-        ensures drawn { IfOk result (λ name. (name < 2 ^ 62) × IsNewName heap.now.1 self.old.pass.1 name × (self.new ≡ with_view self.old (drew_name self.old.pass.1 name))) }
+        ensures drawn { IfOk result (λ name. (name < 2 ^ 62) × IsNewName heap.now.1 self.old.pass.1 name × (self.new ≡ with_name self.old (drew_name self.old.pass.1 name) name)) }
         ensures full { IfErr result (λ full. (full ≡ record { what = Names; limit = 2 ^ 62 }) × (self.new ≡ with_view self.old (saw_full 1 self.old.pass.1))) }
         ensures kept { IsMutatorOf D.Reader.content heap.now self.new }
     {
         match pm3_locks::draw_name(&heap.shared, &mut self.pass) {
-            Ok(name) => Ok(name),
+            Ok(name) => {
+                self.next_name = self.next_name.max(name + 1);
+                Ok(name)
+            }
             Err(full) => Err(full),
         }
     }
@@ -41,6 +45,19 @@ impl<D: Disk> Mutator<D> {
         ensures drawn { IfOk result (λ page. (page < heap.now.1.pages) × IsNewPage heap.now.1 self.old.pass.1 page × (self.new ≡ with_view self.old (settled_in (drew_page self.old.pass.1 page) page (space_unit heap.now.1.pages self.old.space) self.old.pass.1.log))) }
         ensures full { IfErr result (λ full. (full ≡ record { what = Pages; limit = heap.now.1.pages }) × (self.new ≡ with_view self.old (saw_full 0 self.old.pass.1))) }
         ensures kept { IsMutatorOf D.Reader.content heap.now self.new }
+    {
+        match self.draw_own_page(heap) {
+            Ok(page) => Ok(page),
+            Err(full) => Err(full),
+        }
+    }
+
+    /// The same beside marks of other pages.
+    pub(crate) fn draw_own_page(&mut self, heap: &Heap<D>) -> Result<u32, Full>
+        requires of { self.old.pass.0 ≡ heap.now.0 }
+        requires space { (self.old.space < 32) × (holds_of self.old.pass.1.holds (space_unit heap.now.1.pages self.old.space) ≡ true) }
+        ensures drawn { IfOk result (λ page. (page < heap.now.1.pages) × IsNewPage heap.now.1 self.old.pass.1 page × (self.new ≡ with_view self.old (settled_in (drew_page self.old.pass.1 page) page (space_unit heap.now.1.pages self.old.space) (unmark_log self.old.pass.1.log page)))) }
+        ensures full { IfErr result (λ full. (full ≡ record { what = Pages; limit = heap.now.1.pages }) × (self.new ≡ with_view self.old (saw_full 0 self.old.pass.1))) }
     {
         match pm3_locks::draw_page(&heap.shared, &mut self.pass) {
             Ok(page) => {

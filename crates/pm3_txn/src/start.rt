@@ -89,6 +89,7 @@ impl<D: Disk> Heap<D> {
                     reader,
                     refs,
                     wrote,
+                    next_name: 0,
                     alloc,
                 };
                 Ok((heap, first))

@@ -38,11 +38,11 @@ impl<'h, D: Disk> Model for Txn<'h, D> {
 }
 
 impl<D: Disk> Mutator<D> {
-    /// Begins a transaction, which holds nothing. Its commit has this tag.
+    /// Begins a transaction, which holds nothing and has drawn no name. Its commit has this tag.
     pub fn begin(self, heap: &Heap<D>, tag: u32) -> Txn<'_, D>
         requires of { Belongs D.Reader.content heap.now self }
         requires bare { HoldsNothing self }
-        ensures { result ≡ record { heap = heap.now; mutator = record self { wrote = replicate 512 false }; held = nothing_held; tag = tag } }
+        ensures { result ≡ record { heap = heap.now; mutator = record self { wrote = replicate 512 false; next_name = 0 }; held = nothing_held; tag = tag } }
     {
         let mutator = self.unwritten();
         let held = Held::new(mutator.allocator());

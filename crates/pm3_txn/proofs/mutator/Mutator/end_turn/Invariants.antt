@@ -1,4 +1,4 @@
 use Rattle.pm3_txn.proofs.mutator.Mutator.end_turn.Given as goal
 
-abbrev pub ghost-give_turn : goal.ghost-give_turn
-ghost-give_turn g a = g.commits
+abbrev pub ghost-give_back : goal.ghost-give_back
+ghost-give_back g a = g.commits
