@@ -1,0 +1,5 @@
+use Rattle.std.proofs.Common.{◌≡◌}
+use Rattle.pm3_txn_trials.proofs.lists.walk.Given as goal
+
+abbrev pub invariant-loop : goal.invariant-loop
+invariant-loop g l = l.txn.heap ≡ l.fn.txn.heap
