@@ -15,6 +15,7 @@ mod NamesBelow
 pub mod OpensAt
 pub mod Recalling
 pub mod ReadPages
+mod RowCopied
 pub mod RowReads
 pub mod Referred
 pub mod Seeing

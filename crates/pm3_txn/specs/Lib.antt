@@ -10,6 +10,7 @@ pub mod Knowing
 pub mod Puts
 pub mod Takes
 pub mod Crews
+pub mod Forks
 pub mod Frontiers
 pub mod Starts
 pub mod Draining

@@ -7,7 +7,7 @@ ghost use Rattle.pm3_table.specs.Seats.{both_views};
 ghost use Rattle.pm3_table.specs.Telling.{Lawful};
 ghost use Rattle.pm3_txn.specs.Crews.{IsFresh, IsNotMade, IsRowCleared};
 ghost use Rattle.pm3_txn.specs.Takes.{with_view};
-ghost use Rattle.pm3_txn.specs.Underway.{Belongs, HoldsNothing};
+ghost use Rattle.pm3_txn.specs.Underway.{Belongs, HoldsNothing, IsMutatorOf};
 
 use crate::heap::Heap;
 use crate::mutator::Mutator;
@@ -66,6 +66,18 @@ impl<D: Disk> Mutator<D> {
     pub fn join_back(&mut self, heap: &Heap<D>, other: Mutator<D>) -> D::Reader
         requires of { Belongs D.Reader.content heap.now self.old }
         requires other { Belongs D.Reader.content heap.now other }
+        requires idle { HoldsNothing other }
+        ensures reader { result ≡ other.reader }
+        ensures joined { self.new ≡ with_view self.old (both_views self.old.pass.1 other.pass.1) }
+        ensures kept { Belongs D.Reader.content heap.now self.new }
+    {
+        self.absorb(heap, other)
+    }
+
+    /// The same, whatever the other knows of the words of its row.
+    pub(crate) fn absorb(&mut self, heap: &Heap<D>, other: Mutator<D>) -> D::Reader
+        requires of { Belongs D.Reader.content heap.now self.old }
+        requires other { IsMutatorOf D.Reader.content heap.now other }
         requires idle { HoldsNothing other }
         ensures reader { result ≡ other.reader }
         ensures joined { self.new ≡ with_view self.old (both_views self.old.pass.1 other.pass.1) }

@@ -1,9 +1,10 @@
 //! The heap, its mutators and their transactions, over the shared table.
 //!
 //! A program starts a `Heap` over a store that it has opened, and gets the first `Mutator`; `Mutator::fresh` makes one for each further
-//! thread. A mutator has a row of 512 words, as a stack is: references to objects, or numbers. `Mutator::begin` begins a transaction
-//! (`Txn`), whose calls read and write objects to which places of the row lead. `Txn::commit` makes what it wrote last, `Txn::abort`
-//! forgets it. `Busy` says that another mutator holds what is asked for: nothing waits, and the caller aborts, or tries again later.
+//! thread, and `Mutator::fork` one that begins with the words of its maker and makes its objects in the same space. A mutator has a
+//! row of 512 words, as a stack is: references to objects, or numbers. `Mutator::begin` begins a transaction (`Txn`), whose calls
+//! read and write objects to which places of the row lead. `Txn::commit` makes what it wrote last, `Txn::abort` forgets it. `Busy`
+//! says that another mutator holds what is asked for: nothing waits, and the caller aborts, or tries again later.
 //!
 //! The layer above may rely on four things. A mutator's row has what its calls stored and nothing else, a place that was
 //! stored without a refusal pins the page that it names, and a place that is tagged as a reference holds 0 or the address of an
@@ -31,6 +32,7 @@ mod gathering;
 
 // The calls of a mutator on its own row and on units, and those by which mutators are made and end.
 mod crew;
+mod forking;
 mod rows;
 mod units;
 
@@ -79,6 +81,7 @@ pub use close_fault::HeapCloseFault;
 pub use commit_fault::{CommitEnd, CommitFault, CommitRefusal};
 pub use crew::FreshFault;
 pub use faults::AccessFault;
+pub use forking::ForkFault;
 pub use heap::Heap;
 pub use laws::{drawn_law, holding_law, owner_law, pass_law, step_law, transaction_law, works_law};
 pub use mutator::{Mutator, Tag};

@@ -55,7 +55,19 @@ impl<D: Disk> Mutator<D> {
         requires { i < 512 }
         ensures { result ≡ tag_of (slice_index_or self.now.refs i false) }
     {
-        if self.refs[i] { Tag::Ref } else { Tag::Number }
+        if self.is_reference(i) {
+            Tag::Ref
+        } else {
+            Tag::Number
+        }
+    }
+
+    /// Whether a place is tagged as a reference.
+    pub(crate) fn is_reference(&self, i: usize) -> bool
+        requires { i < 512 }
+        ensures { result ≡ slice_index_or self.now.refs i false }
+    {
+        self.refs[i]
     }
 
     /// The mutator as a transaction begins, which has written no place and drawn no name.

@@ -6,6 +6,7 @@ mod closing;
 mod counting;
 mod example;
 mod files;
+mod forks;
 mod four;
 mod list_stores;
 mod lists;
@@ -22,6 +23,7 @@ pub use closing::closed;
 pub use counting::{Refusal, add_up, count, count_up, ended};
 pub use example::write_and_read;
 pub use files::{reference, small_files};
+pub use forks::{Front, fork_of_row, fork_often, make_beside_fork};
 pub use list_stores::{Told, build_lists};
 pub use lists::{Deed, Node, Seen};
 pub use plans::{Kind, Plan};
@@ -32,6 +34,8 @@ pub use trails::{Share, Trail};
 
 #[cfg(test)]
 mod beside_tests;
+#[cfg(test)]
+mod forks_tests;
 #[cfg(test)]
 mod lists_tests;
 #[cfg(test)]

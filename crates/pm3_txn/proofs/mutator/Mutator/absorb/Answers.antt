@@ -1,6 +1,6 @@
 use Rattle.pm3_txn.specs.States.{MutatorState}
 use Rattle.pm3_txn.proofs.Belonging.{belongs_joined}
-use Rattle.pm3_txn.proofs.mutator.Mutator.join_back.Goals as goal
+use Rattle.pm3_txn.proofs.mutator.Mutator.absorb.Goals as goal
 
 pub returns-clause-kept : goal.returns-clause-kept
 returns-clause-kept g c =
