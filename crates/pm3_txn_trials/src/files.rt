@@ -39,6 +39,11 @@ fn set_word(bytes: &mut Vec<u8>, page: u16, word: u16, value: u64) {
 /// The page file and the journal of a store with two objects. The first, under root 0 and on page 3, has the word 7, and refers to
 /// the second, and with its tail to itself. The second, on page 4, has the bytes of `hello`.
 pub fn small_files(alloc: Global) -> Option<(Vec<u8>, Vec<u8>)> {
+    files_named(alloc, 3)
+}
+
+/// The same files with another next name.
+pub fn files_named(alloc: Global, next_name: u64) -> Option<(Vec<u8>, Vec<u8>)> {
     let mut pages = MemoryDisk::new(alloc, Vec::new(alloc), Vec::new(alloc));
     let mut journal = MemoryDisk::new(alloc, Vec::new(alloc), Vec::new(alloc));
     let Ok(()) = create(&mut pages, &mut journal, PAGES, &types(alloc)?) else {
@@ -50,7 +55,7 @@ pub fn small_files(alloc: Global) -> Option<(Vec<u8>, Vec<u8>)> {
     let words = [
         // The high page, and the next name.
         (0, 2, 5),
-        (0, 3, 3),
+        (0, 3, next_name),
         (2, 2, reference(3, 2)),
         (3, 0, 0x7_0000_0003),
         (3, 2, 0x1_0000),

@@ -1,7 +1,6 @@
 //! A mutator that is forked has its maker's words and space.
 use super::*;
-use crate::forks::{fork_of_row, fork_often, make_beside_fork};
-use pm3_core::BASE;
+use crate::forks::{forked_number, make_beside_fork, make_often};
 use pm3_disk::MemoryDisk;
 use pm3_table::{Limit, Unit};
 use pm3_txn::{AccessFault, ForkFault, Tag};
@@ -26,16 +25,10 @@ fn a_fork_has_the_words_and_the_tags(rt: HostRuntime) -> Result<(), Fail> {
     let Some((heap, first, reader)) = started_with(alloc, pages, journal) else {
         return Err(Fail::new("no heap"));
     };
-    let Some((rows, word)) = fork_of_row(&heap, first, reader, 9) else {
-        return Err(Fail::new("no fork"));
-    };
-    let [own, other] = rows;
-    assert_eq!(rt; own, other);
-    let [zeroth, first, second] = other;
-    assert_eq!(rt; zeroth.0, Tag::Ref);
-    assert!(rt; zeroth.1 > BASE);
-    assert_eq!(rt; (first, second), ((Tag::Ref, 0), (Tag::Number, 9)));
-    assert_eq!(rt; word, Ok(7));
+    assert_eq!(rt;
+        forked_number(&heap, first, reader, 9),
+        Some((Tag::Number, 9))
+    );
     Ok(())
 }
 
@@ -55,17 +48,35 @@ fn a_fork_shares_the_space(rt: HostRuntime) -> Result<(), Fail> {
     Ok(())
 }
 
+/// Makes more mutators than there can be, and tells how many were made.
+fn rows_used(alloc: Global, of_group: bool) -> Result<(u32, Option<ForkFault>), Fail> {
+    let (pages, journal) = devices(alloc)?;
+    let Some((heap, first, reader)) = started_with(alloc, pages, journal) else {
+        return Err(Fail::new("no heap"));
+    };
+    Ok(make_often(&heap, first, reader, of_group, 40))
+}
+
 #[test]
-fn forks_use_up_the_rows(rt: HostRuntime) -> Result<(), Fail> {
+fn the_rows_are_used_up(rt: HostRuntime) -> Result<(), Fail> {
+    let alloc = rt.alloc();
+    let full = ForkFault::Full {
+        what: Limit::Rows,
+        limit: 32,
+    };
+    assert_eq!(rt; rows_used(alloc, false)?, (31, Some(full)));
+    assert_eq!(rt; rows_used(alloc, true)?, (31, Some(full)));
+    Ok(())
+}
+
+#[test]
+fn a_heap_is_closed_once_all_are_joined(rt: HostRuntime) -> Result<(), Fail> {
     let alloc = rt.alloc();
     let (pages, journal) = devices(alloc)?;
     let Some((heap, first, reader)) = started_with(alloc, pages, journal) else {
         return Err(Fail::new("no heap"));
     };
-    let full = ForkFault::Full {
-        what: Limit::Rows,
-        limit: 32,
-    };
-    assert_eq!(rt; fork_often(&heap, first, reader, 40), (31, Some(full)));
+    let told = closed_once_all_are_joined(heap, first, reader);
+    assert_eq!(rt; told, Some(((2, 1), true)));
     Ok(())
 }

@@ -19,11 +19,11 @@ mod stores;
 mod trails;
 
 pub use beside::{add_beside, count_beside};
-pub use closing::closed;
+pub use closing::{closed, closed_once_all_are_joined};
 pub use counting::{Refusal, add_up, count, count_up, ended};
 pub use example::write_and_read;
-pub use files::{reference, small_files};
-pub use forks::{Front, fork_of_row, fork_often, make_beside_fork};
+pub use files::{files_named, reference, small_files};
+pub use forks::{forked_number, make_beside_fork, make_often};
 pub use list_stores::{Told, build_lists};
 pub use lists::{Deed, Node, Seen};
 pub use plans::{Kind, Plan};

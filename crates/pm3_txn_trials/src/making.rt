@@ -22,6 +22,22 @@ pub fn make<D: Disk>(
     txn.make(ty, tail, j)
 }
 
+/// Makes an object of a type in a transaction that is given up.
+pub fn make_once<D: Disk>(
+    heap: &Heap<D>,
+    mutator: Mutator<D>,
+    ty: TypeNo,
+) -> (Mutator<D>, Result<(), AccessFault>)
+    requires of { Belongs D.Reader.content heap.now mutator }
+    requires bare { HoldsNothing mutator }
+    ensures belongs { Belongs D.Reader.content heap.now result.0 }
+    ensures bare { HoldsNothing result.0 }
+{
+    let mut txn = mutator.begin(heap, 2);
+    let made = make(&mut txn, ty, 0, 0);
+    (txn.abort(), made)
+}
+
 /// The names of two objects that were made, and what was written in them and read back.
 #[derive(Debug, PartialEq, Eq, Clone, Copy, Drop)]
 pub struct Pair {

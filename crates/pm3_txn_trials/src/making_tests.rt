@@ -3,7 +3,7 @@ ghost use Rattle.std.specs.Prelude.{◌≡◌};
 ghost use Rattle.pm3_txn.specs.Underway.{Belongs, HoldsNothing};
 
 use super::*;
-use crate::making::{Pair, filled, forgotten_pair, make};
+use crate::making::{Pair, filled, forgotten_pair, make, make_once};
 use pm3_disk::{Disk, MemoryDisk};
 use pm3_table::Limit;
 use pm3_txn::{AccessFault, CommitRefusal, Heap, Mutator, Tag};
@@ -102,5 +102,25 @@ fn what_was_made_is_read_back_from_the_closed_store(rt: HostRuntime) -> Result<(
     let journal = MemoryDisk::new(alloc, Vec::new(alloc), Vec::new(alloc));
     let seen = write_and_read(alloc, pages, journal);
     assert_eq!(rt; seen, Some(Ok((1, *b"Emma."))));
+    Ok(())
+}
+
+#[test]
+fn the_names_are_used_up(rt: HostRuntime) -> Result<(), Fail> {
+    let alloc = rt.alloc();
+    let Some((pages, records)) = files_named(alloc, 1 << 62) else {
+        return Err(Fail::new("no store"));
+    };
+    let pages = MemoryDisk::new(alloc, pages, vec![in alloc; 1000; 1]?);
+    let journal = MemoryDisk::new(alloc, records, vec![in alloc; 1000; 1]?);
+    let Some((heap, first)) = started(alloc, pages, journal) else {
+        return Err(Fail::new("no heap"));
+    };
+    let (_, made) = make_once(&heap, first, 1);
+    let full = AccessFault::Full {
+        what: Limit::Names,
+        limit: 1 << 62,
+    };
+    assert_eq!(rt; made, Err(full));
     Ok(())
 }

@@ -1,6 +1,6 @@
 use Rattle.std.proofs.Common.{◌≡◌}
 use Rattle.pm3_txn.specs.Underway.{Belongs}
-use Rattle.pm3_txn_trials.proofs.forks.fork_often.Given as goal
+use Rattle.pm3_txn_trials.proofs.forks.make_often.Given as goal
 
 abbrev pub invariant-loop-made : goal.invariant-loop-made
 invariant-loop-made g l = record {
